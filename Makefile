@@ -1,0 +1,5 @@
+# make test   prove and test everything; the last line is `N passed, 0 failed`
+.PHONY: test
+
+test:
+	@tools/test

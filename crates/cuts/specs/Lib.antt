@@ -1,0 +1,10 @@
+pub mod Sums
+pub mod First
+pub mod Network
+pub mod Cut
+pub mod Tree
+pub mod Candidate
+pub mod Bound
+pub mod Answer
+pub mod Paths
+pub mod Demands
