@@ -1,0 +1,227 @@
+-- Laws of sums, counts, tests and tables over the numbers below a bound.
+-- Assumes nothing.
+use Prim.Native.Nat.{ℕ, zero, suc, _+_, _*_, _≤_, _<_}
+use mathlib.Core.Path.{_≡_, refl, sym, ap, ap₂, _∙_, subst}
+use mathlib.Core.Logic.{_⊎_, inl, inr}
+use mathlib.Core.Bool.{Bool, true, false, _&&_, _||_, not, and-true, and-eq-true-iff, or-false}
+use mathlib.Core.List.{List, [], _∷_, _++_}
+use native.Mathlib.Nat.{eq-or-lt-of-le, le-of-suc-le-suc, not-suc-le-zero}
+use native.Mathlib.Decide.{decLt}
+use native.Mathlib.Omega.{arith}
+use lib.ListN.{length, getD, set, length-append, List·getD-append}
+use lib.Seq.{getD-at}
+use lib.Dec.{eqb, eqb·zero-suc, eqb·suc-zero, eqb·suc-suc}
+use borrow.Author.Tests.{eq-eqb, ne-eqb}
+use Rattle.cuts.specs.Sums.{sumTo, only, anyTo, allTo, table, countTo}
+use Rattle.cuts.proofs.FlagLaws.{clash, either, or-left, or-right}
+
+-- ---- what holds below suc n
+
+pub all-suc : (P : ℕ → Type 0) (n : ℕ) → ((k : ℕ) → k < n → P k) → P n → (k : ℕ) → k < suc n → P k
+all-suc P n h p k b = step (eq-or-lt-of-le (le-of-suc-le-suc b))
+  where
+    step : (k ≡ n) ⊎ (k < n) → P k
+    step (inl e) = subst P (sym e) p
+    step (inr l) = h k l
+
+pub anyTo-some : (n : ℕ) (f : ℕ → Bool) → anyTo n f ≡ true → (k : ℕ) × (k < n) × (f k ≡ true)
+unfolding anyTo
+anyTo-some zero f h = clash h refl
+anyTo-some (suc n) f h = step (anyTo-some n f) (either (anyTo n f) (f n) h)
+  where
+    step : (anyTo n f ≡ true → (k : ℕ) × (k < n) × (f k ≡ true)) → (anyTo n f ≡ true) ⊎ (f n ≡ true) → (k : ℕ) × (k < suc n) × (f k ≡ true)
+    step r (inl e) = let s = r e in (s .0, omega (arith, s .1), s .2)
+    step r (inr e) = (n, omega arith, e)
+
+pub anyTo-at : (n : ℕ) (f : ℕ → Bool) (k : ℕ) → k < n → f k ≡ true → anyTo n f ≡ true
+unfolding anyTo
+anyTo-at zero f = λ k b. absurd (not-suc-le-zero b)
+anyTo-at (suc n) f = all-suc (λ k. f k ≡ true → anyTo (suc n) f ≡ true) n (λ k b e. or-left (anyTo n f) (f n) (anyTo-at n f k b e)) (or-right (anyTo n f) (f n))
+
+pub allTo-at : (n : ℕ) (f : ℕ → Bool) → allTo n f ≡ true → (k : ℕ) → k < n → f k ≡ true
+unfolding allTo
+allTo-at zero f h = λ k b. absurd (not-suc-le-zero b)
+allTo-at (suc n) f h = let p = and-eq-true-iff (allTo n f) (f n) .0 h in all-suc (λ k. f k ≡ true) n (allTo-at n f (p .0)) (p .1)
+
+-- ---- sums
+
+pub sum-congr : (n : ℕ) (f g : ℕ → ℕ) → ((k : ℕ) → k < n → f k ≡ g k) → sumTo n f ≡ sumTo n g
+unfolding sumTo
+sum-congr zero f g h = refl
+sum-congr (suc n) f g h = ap₂ _+_ (sum-congr n f g (λ k b. h k (omega arith))) (h n (omega arith))
+
+pub sum-mono : (n : ℕ) (f g : ℕ → ℕ) → ((k : ℕ) → k < n → f k ≤ g k) → sumTo n f ≤ sumTo n g
+unfolding sumTo
+sum-mono zero f g h = omega arith
+sum-mono (suc n) f g h = let r = sum-mono n f g (λ k b. h k (omega arith)) in omega (arith, h n (omega arith))
+
+pub sum-add : (n : ℕ) (f g : ℕ → ℕ) → sumTo n (λ k. f k + g k) ≡ sumTo n f + sumTo n g
+unfolding sumTo
+sum-add zero f g = refl
+sum-add (suc n) f g = let r = sum-add n f g in omega arith
+
+pub sum-scale : (n c : ℕ) (f : ℕ → ℕ) → sumTo n (λ k. c * f k) ≡ c * sumTo n f
+unfolding sumTo
+sum-scale zero c f = omega arith
+sum-scale (suc n) c f = let r = sum-scale n c f in omega arith
+
+pub sum-const : (n c : ℕ) → sumTo n (λ k. c) ≡ n * c
+unfolding sumTo
+sum-const zero c = omega arith
+sum-const (suc n) c = let r = sum-const n c in omega arith
+
+pub sum-swap : (n m : ℕ) (f : ℕ → ℕ → ℕ) → sumTo n (λ i. sumTo m (f i)) ≡ sumTo m (λ j. sumTo n (λ i. f i j))
+unfolding sumTo
+sum-swap zero m f = let r = sum-const m 0 in omega arith
+sum-swap (suc n) m f = let r = sum-swap n m f in let s = sum-add m (λ j. sumTo n (λ i. f i j)) (f n) in omega arith
+
+pub sum-entry : (n : ℕ) (f : ℕ → ℕ) (k : ℕ) → k < n → f k ≤ sumTo n f
+unfolding sumTo
+sum-entry zero f = λ k b. absurd (not-suc-le-zero b)
+sum-entry (suc n) f = all-suc (λ k. f k ≤ sumTo (suc n) f) n (λ k b. let r = sum-entry n f k b in omega arith) (omega arith)
+
+-- where no entry shrinks and the sums agree, so do the entries
+pub sum-tight : (n : ℕ) (f g : ℕ → ℕ) → ((k : ℕ) → k < n → f k ≤ g k) → sumTo n g ≤ sumTo n f → (k : ℕ) → k < n → f k ≡ g k
+unfolding sumTo
+sum-tight zero f g h s = λ k b. absurd (not-suc-le-zero b)
+sum-tight (suc n) f g h s =
+    let l : f n ≤ g n = h n (omega arith) in
+    let m : (k : ℕ) → k < n → f k ≤ g k = λ k b. h k (omega arith) in
+    let r : sumTo n f ≤ sumTo n g = sum-mono n f g m in
+    all-suc (λ k. f k ≡ g k) n (sum-tight n f g m (omega arith)) (omega arith)
+
+pub sum-single : (n a : ℕ) (f : ℕ → ℕ) → a < n → sumTo n (λ k. only (eqb a k) (f k)) ≡ f a
+unfolding sumTo
+sum-single zero a f b = absurd (not-suc-le-zero b)
+sum-single (suc n) a f b = step (sum-single n a f) (eq-or-lt-of-le (le-of-suc-le-suc b))
+  where
+    rest : (m : ℕ) → m ≤ a → sumTo m (λ k. only (eqb a k) (f k)) ≡ 0
+    rest zero l = refl
+    rest (suc m) l = rw (ne-eqb a m (λ e. omega arith)) (let r = rest m (omega arith) in omega arith)
+
+    step : (a < n → sumTo n (λ k. only (eqb a k) (f k)) ≡ f a) → (a ≡ n) ⊎ (a < n) → sumTo n (λ k. only (eqb a k) (f k)) + only (eqb a n) (f n) ≡ f a
+    step r (inl e) = rw (eq-eqb a n e, ← e) (let z = rest a (omega arith) in omega arith)
+    step r (inr l) = rw (ne-eqb a n (λ e. omega arith)) (let z = r l in omega arith)
+
+-- ---- counts
+
+-- the last of those counted
+pub record Last (n : ℕ) (f : ℕ → Bool) : Type 0 where
+  pub at : ℕ
+  pub under : at < n
+  pub holds : f at ≡ true
+  pub before : suc (countTo at f) ≡ countTo n f
+  pub after : (k : ℕ) → k < n → at < k → f k ≡ false
+
+later : (n : ℕ) (f : ℕ → Bool) → f n ≡ false → Last n f → Last (suc n) f
+unfolding sumTo
+later n f p s = record {
+  at = s .at;
+  under = omega arith;
+  holds = s .holds;
+  before = rw p (let b = s .before in omega arith);
+  after = all-suc (λ k. s .at < k → f k ≡ false) n (s .after) (λ c. p);
+}
+
+pub count-last : (n : ℕ) (f : ℕ → Bool) → 0 < countTo n f → Last n f
+unfolding sumTo
+count-last zero f h = absurd (not-suc-le-zero h)
+count-last (suc n) f h = step (f n) refl h (count-last n f)
+  where
+    step : (b : Bool) → f n ≡ b → 0 < countTo n f + only b 1 → (0 < countTo n f → Last n f) → Last (suc n) f
+    step true p l r = record { at = n; under = omega arith; holds = p; before = rw p (omega arith); after = λ k b c. absurd (omega arith) }
+    step false p l r = later n f p (r (omega arith))
+
+pub count-none : (n : ℕ) (f : ℕ → Bool) → countTo n f ≡ 0 → (k : ℕ) → k < n → f k ≡ false
+count-none n f h k b = step (f k) refl
+  where
+    step : (c : Bool) → f k ≡ c → f k ≡ false
+    step false p = p
+    step true p = let r : only (f k) 1 ≤ countTo n f = sum-entry n (λ j. only (f j) 1) k b in absurd (omega (arith, rw p at r))
+
+-- what is counted below m, where none passes from m on
+pub count-cut : (m n : ℕ) (f : ℕ → Bool) → m ≤ n → ((k : ℕ) → m ≤ k → k < n → f k ≡ false) → countTo n f ≡ countTo m f
+unfolding sumTo
+count-cut m zero f l h = let e : 0 ≡ m = omega arith in ap (λ (k : ℕ). countTo k f) e
+count-cut m (suc n) f l h = step (eq-or-lt-of-le l) (count-cut m n f)
+  where
+    step : (m ≡ suc n) ⊎ (m < suc n) → (m ≤ n → ((k : ℕ) → m ≤ k → k < n → f k ≡ false) → countTo n f ≡ countTo m f) → countTo (suc n) f ≡ countTo m f
+    step (inl e) r = ap (λ (k : ℕ). countTo k f) (sym e)
+    step (inr b) r = let q = r (omega arith) (λ k a c. h k a (omega arith)) in rw (h n (omega arith) (omega arith)) (omega arith)
+
+-- k is below, at or above e
+pub side-by-side : (P : ℕ → Type 0) (e : ℕ) → ((k : ℕ) → k < e → P k) → P e → ((k : ℕ) → e < k → P k) → (k : ℕ) → P k
+side-by-side P e f p g k = step (decLt k e)
+  where
+    step : Dec (k < e) → P k
+    step (yes l) = f k l
+    step (no n) = above (eq-or-lt-of-le (omega arith))
+      where
+        above : (e ≡ k) ⊎ (e < k) → P k
+        above (inl q) = subst P q p
+        above (inr l) = g k l
+
+pub record One (n : ℕ) (f : ℕ → Bool) : Type 0 where
+  pub at : ℕ
+  pub under : at < n
+  pub is : (k : ℕ) → k < n → f k ≡ eqb at k
+
+pub record Two (n : ℕ) (f : ℕ → Bool) : Type 0 where
+  pub low : ℕ
+  pub high : ℕ
+  pub apart : low < high
+  pub under : high < n
+  pub is : (k : ℕ) → k < n → f k ≡ (eqb low k || eqb high k)
+
+pub count-one : (n : ℕ) (f : ℕ → Bool) → countTo n f ≡ 1 → One n f
+count-one n f h = from (count-last n f (omega arith))
+  where
+    from : Last n f → One n f
+    from l = record {
+      at = l .at;
+      under = l .under;
+      is = side-by-side (λ k. k < n → f k ≡ eqb (l .at) k) (l .at)
+          (λ k b _. count-none (l .at) f (let c = l .before in omega arith) k b ∙ sym (ne-eqb (l .at) k (λ e. omega arith)))
+          (λ b. l .holds ∙ sym (eq-eqb (l .at) (l .at) refl))
+          (λ k b c. l .after k c b ∙ sym (ne-eqb (l .at) k (λ e. omega arith)));
+    }
+
+pub count-two : (n : ℕ) (f : ℕ → Bool) → countTo n f ≡ 2 → Two n f
+count-two n f h = from (count-last n f (omega arith))
+  where
+    pair : (l : Last n f) → One (l .at) f → Two n f
+    pair l o = record {
+      low = o .at;
+      high = l .at;
+      apart = o .under;
+      under = l .under;
+      is = side-by-side (λ k. k < n → f k ≡ (eqb (o .at) k || eqb (l .at) k)) (l .at)
+          (λ k b _. rw (ne-eqb (l .at) k (λ e. omega arith)) (o .is k b ∙ sym (or-false (eqb (o .at) k))))
+          (λ b. rw (ne-eqb (o .at) (l .at) (λ e. let u = o .under in omega arith), eq-eqb (l .at) (l .at) refl) (l .holds))
+          (λ k b c. rw (ne-eqb (o .at) k (λ e. let u = o .under in omega arith), ne-eqb (l .at) k (λ e. omega arith)) (l .after k c b));
+    }
+
+    from : Last n f → Two n f
+    from l = pair l (count-one (l .at) f (let c = l .before in omega arith))
+
+-- ---- tables, lists with an entry cleared, selections
+
+pub table-length : {A : Type 0} (n : ℕ) (f : ℕ → A) → length (table n f) ≡ n
+unfolding table
+table-length zero f = refl
+table-length (suc n) f = rw length-append (let r = table-length n f in omega arith)
+
+pub table-at : {A : Type 0} (d : A) (n : ℕ) (f : ℕ → A) (x : ℕ) → x < n → getD (table n f) x d ≡ f x
+unfolding table
+table-at d zero f = λ x b. absurd (not-suc-le-zero b)
+table-at d (suc n) f = all-suc (λ x. getD (table n f ++ f n ∷ []) x d ≡ f x) n
+    (λ x b. List·getD-append (table n f) (f n ∷ []) d x (rw (table-length n f) b) ∙ table-at d n f x b)
+    (getD-at (table n f) (f n) [] d n (table-length n f))
+
+pub cleared-at : (l : List Bool) (e k : ℕ) → getD (set l e false) k false ≡ (getD l k false && not (eqb e k))
+cleared-at [] e k = refl
+cleared-at (true ∷ l) zero zero = refl
+cleared-at (false ∷ l) zero zero = refl
+cleared-at (b ∷ l) zero (suc k) = rw (eqb·zero-suc k) (sym (and-true (getD l k false)))
+cleared-at (b ∷ l) (suc e) zero = rw (eqb·suc-zero e) (sym (and-true b))
+cleared-at (b ∷ l) (suc e) (suc k) = rw (eqb·suc-suc e k) (cleared-at l e k)
