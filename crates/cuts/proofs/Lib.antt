@@ -1,5 +1,11 @@
 pub mod FlagLaws
 pub mod SumLaws
+pub mod ListLaws
 pub mod Joined
 pub mod CutLaws
 pub mod Spanning
+pub mod Crossings
+pub mod Packing
+pub mod Least
+pub mod Handles
+pub mod Demands

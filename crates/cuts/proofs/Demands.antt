@@ -1,0 +1,316 @@
+-- The answer of every sound network meets demands 2 and 3. A side that some tree crosses at most twice is a candidate's, or its complement
+-- is, and no candidate weighs less than the first in the order; a side that every tree crosses three times weighs at least three times
+-- the shares, where no link is overloaded.
+-- Assumes nothing.
+use Prim.Native.Nat.{ℕ, zero, suc, _+_, _*_, _≤_, _<_, min}
+use mathlib.Core.Path.{_≡_, refl, sym, ap, _∙_, subst}
+use mathlib.Core.Logic.{_⊎_, inl, inr, _↔_}
+use mathlib.Core.Bool.{Bool, true, false, _&&_, not, xor, cond}
+use mathlib.Core.List.{List, _∷_, map, List·Memᴰ, List·Memᴰ·cases-cons, List·Memᴰ·append-cases}
+use native.Mathlib.Nat.{eq-or-lt-of-le}
+use native.Mathlib.Omega.{arith}
+use lib.ListN.{length, length-map}
+use lib.Dec.{eqb, leb, ltb}
+use borrow.Author.Tests.{eqb-true, eq-eqb, ne-eqb, lt-ltb, ltb-true, ltb-false, leb-true, leb-false}
+use Rattle.cuts.specs.Sums.{only, anyTo}
+use Rattle.cuts.specs.Network.{Tree, Network, Linked, flag, linkAt, linkCount, noTree, treeAt}
+use Rattle.cuts.specs.Cut.{Side, Respects, Proper, Rootless, crosses, cutWeight, crossings, size}
+use Rattle.cuts.specs.Tree.{Spanning, Sound, memberCount}
+use Rattle.cuts.specs.Candidate.{Candidate, Handle, Fits, Earlier, Precedes, one, two, candidate, candidates, lighter, noCandidate, sideOf}
+use Rattle.cuts.specs.Bound.{load, shares, overloaded, floor}
+use Rattle.cuts.specs.Answer.{Answer, certified, treesOnly, verdictOf, judged, answer}
+use Rattle.cuts.specs.Demands.{Demand2, Demand3, Owed}
+use Rattle.cuts.proofs.FlagLaws.{clash, truth}
+use Rattle.cuts.proofs.SumLaws.{anyTo-some, anyTo-at, sum-congr, sum-add, sum-const, sum-entry, count-none, Last, count-last}
+use Rattle.cuts.proofs.ListLaws.{mem-at, each-split}
+use Rattle.cuts.proofs.CutLaws.{crosses-is, flag-not, cutWeight-not, crossings-not, weightOf-is}
+use Rattle.cuts.proofs.Crossings.{named, sideOf-rootless, sideOf-crosses, sideOf-crossings, crossings-none, belongs}
+use Rattle.cuts.proofs.Packing.{packing}
+use Rattle.cuts.proofs.Least.{Order, by-key, First, first-in, first-least, first-of}
+use Rattle.cuts.proofs.Handles.{Genuine, candidate-in, candidate-of, candidates-earlier}
+
+-- ---- sizes
+
+size-none : (net : Network) (s : Side) → ((x : ℕ) → x < net .nodes → flag s x ≡ false) → size net s ≡ 0
+unfolding size
+size-none net s h = let a = sum-congr (net .nodes) (λ x. only (flag s x) 1) (λ x. 0) (λ x b. rw (h x b)) in let b = sum-const (net .nodes) 0 in omega arith
+
+size-not : (net : Network) (s : Side) → length s ≡ net .nodes → size net (map not s) + size net s ≡ net .nodes
+unfolding size
+size-not net s e =
+    let a = sum-add (net .nodes) (λ x. only (flag (map not s) x) 1) (λ x. only (flag s x) 1) in
+    let b = sum-congr (net .nodes) (λ x. only (flag (map not s) x) 1 + only (flag s x) 1) (λ x. 1) (λ x b. rw (flag-not s x (rw e b)) (one-of (flag s x))) in
+    let c = sum-const (net .nodes) 1 in
+    omega arith
+  where
+    one-of : (c : Bool) → only (not c) 1 + only c 1 ≡ 1
+    one-of true = refl
+    one-of false = refl
+
+size-lacks : (net : Network) (s : Side) (x : ℕ) → length s ≡ net .nodes → x < net .nodes → flag s x ≡ false → size net s < net .nodes
+unfolding size
+size-lacks net s x e b f =
+    let n = size-not net s e in
+    let a = sum-entry (net .nodes) (λ y. only (flag (map not s) y) 1) x b in
+    let c : only (flag (map not s) x) 1 ≡ 1 = rw (flag-not s x (rw e b), f) in
+    omega arith
+
+crossings-empty : (net : Network) → Linked net → (t : Tree) (s : Side) → ((x : ℕ) → x < net .nodes → flag s x ≡ false) → crossings net t s ≡ 0
+unfolding crossings xor
+crossings-empty net l t s h =
+    let a = sum-congr (linkCount net) (λ k. only (flag (t .members) k && crosses net s k) 1) (λ k. 0)
+    (λ k b. rw (crosses-is net s k, h _ (l .first-in k b), h _ (l .second-in k b)) (none (flag (t .members) k))) in
+    let b = sum-const (linkCount net) 0 in
+    omega arith
+  where
+    none : (c : Bool) → only (c && false) 1 ≡ 0
+    none true = refl
+    none false = refl
+
+-- ---- sides and their complements
+
+-- the side or its complement is without the root, and crosses and weighs the same
+record Turned (net : Network) (s : Side) : Type 0 where
+  side : Side
+  proper : Proper net side
+  rootless : Rootless net side
+  weighs : cutWeight net side ≡ cutWeight net s
+  crosses-as : (t : Tree) → crossings net t side ≡ crossings net t s
+
+turn : (net : Network) → Linked net → (s : Side) → Proper net s → Turned net s
+turn net l s p = step (truth (flag s 0))
+  where
+    step : (flag s 0 ≡ true) ⊎ (flag s 0 ≡ false) → Turned net s
+    step (inr f) = record { side = s; proper = p; rootless = record { sized = p .sized; without = f }; weighs = refl; crosses-as = λ t. refl }
+    step (inl f) =
+        let n = size-not net s (p .sized) in
+        let e : length (map not s) ≡ net .nodes = length-map s not ∙ p .sized in
+        record {
+          side = map not s;
+          proper = record { sized = e; not-empty = let q = p .not-full in omega arith; not-full = let q = p .not-empty in omega arith };
+          rootless = record { sized = e; without = flag-not s 0 (rw (p .sized) (l .rooted)) ∙ ap not f };
+          weighs = cutWeight-not net l s (p .sized);
+          crosses-as = crossings-not net l s (p .sized);
+        }
+
+-- a proper side without the root crosses some member
+crossings-some : {net : Network} {t : Tree} → Spanning net t → (s : Side) → Proper net s → Rootless net s → 1 ≤ crossings net t s
+crossings-some {net} {t} g s p r = go (crossings net t s) refl
+  where
+    go : (n : ℕ) → crossings net t s ≡ n → 1 ≤ n
+    go (suc n) e = omega arith
+    go zero e = let z = size-none net s (crossings-none g s r e) in let q = p .not-empty in absurd (omega arith)
+
+-- a handle's side is neither empty nor full
+handle-proper : {net : Network} {t : Tree} → Spanning net t → (h : Handle) → Fits net t h → Proper net (sideOf net t h)
+handle-proper {net} {t} g h f =
+    let r = sideOf-rootless g h f in
+    record { sized = r .sized; not-empty = some (size net (sideOf net t h)) refl; not-full = size-lacks net (sideOf net t h) 0 (r .sized) (g .linked .rooted) (r .without) }
+  where
+    names-some : (h : Handle) → 0 < named h
+    names-some (one e) = omega arith
+    names-some (two e f) = omega arith
+
+    some : (n : ℕ) → size net (sideOf net t h) ≡ n → 0 < n
+    some (suc n) e = omega arith
+    some zero e =
+        let a = sideOf-crossings g h f in
+        let b = crossings-empty net (g .linked) t (sideOf net t h) (count-none (net .nodes) (flag (sideOf net t h)) (unfold size in e)) in
+        let c = names-some h in
+        absurd (omega arith)
+
+-- ---- the first in an order that goes by weight
+
+-- an order of candidates that goes by weight first
+pub record Weighing (before : Candidate → Candidate → Bool) : Type 0 where
+  pub order : Order before
+  pub by-weight : (d c : Candidate) → before d c ≡ false → c .weight ≤ d .weight
+
+lighter-weighing : Weighing lighter
+unfolding lighter
+lighter-weighing = record { order = by-key (λ c. c .weight); by-weight = λ d c e. ltb-false _ _ e }
+
+verdict-tells : (f w : ℕ) → (verdictOf f w ≡ certified) ↔ (w ≡ f)
+verdict-tells f w = (λ h. sym (eqb-true f w (whole (eqb f w) h)), λ h. rw (eq-eqb f w (sym h)))
+  where
+    whole : (b : Bool) → _≡_ {A = ℕ} (cond b 2 1) 2 → b ≡ true
+    whole true h = refl
+    whole false h = absurd (omega arith)
+
+verdict-else : (f w : ℕ) → (w ≡ f → ⊥) → verdictOf f w ≡ treesOnly
+verdict-else f w n = rw (ne-eqb f w (λ q. n (sym q)))
+
+module _ (net : Network) (v : Sound net) where
+  -- some tree crosses the side at most twice, or all cross it three times
+  pub few-or-many : (s : Side) → ((i : ℕ) × (i < length (net .trees)) × (Respects net (treeAt net i) s)) ⊎ ((t : Tree) → List·Memᴰ t (net .trees) → 3 ≤ crossings net t s)
+  few-or-many s = step (truth (anyTo (length (net .trees)) few))
+    where
+      few : ℕ → Bool
+      few i = leb (crossings net (treeAt net i) s) 2
+
+      many : anyTo (length (net .trees)) few ≡ false → (i : ℕ) → i < length (net .trees) → 3 ≤ crossings net (treeAt net i) s
+      many e i b = leb-false (crossings net (treeAt net i) s) 2 (go (few i) refl)
+        where
+          go : (c : Bool) → few i ≡ c → c ≡ false
+          go false q = refl
+          go true q = clash (anyTo-at (length (net .trees)) few i b q) e
+
+      step : (anyTo (length (net .trees)) few ≡ true) ⊎ (anyTo (length (net .trees)) few ≡ false)
+          → ((i : ℕ) × (i < length (net .trees)) × (Respects net (treeAt net i) s)) ⊎ ((t : Tree) → List·Memᴰ t (net .trees) → 3 ≤ crossings net t s)
+      step (inl e) = let r = anyTo-some (length (net .trees)) few e in inl (r .0, r .1, leb-true _ 2 (r .2))
+      step (inr e) = inr (λ t m. let r = mem-at noTree m in subst (λ (u : Tree). 3 ≤ crossings net u s) (r .2) (many e (r .0) (r .1)))
+
+  some-candidate : (c : Candidate) × List·Memᴰ c (candidates net)
+  unfolding memberCount
+  some-candidate = from (count-last (linkCount net) (flag (treeAt net 0 .members)) (let n = v .spanning 0 (v .listed) .counted in let q = v .several in omega arith))
+    where
+      from : Last (linkCount net) (flag (treeAt net 0 .members)) → (c : Candidate) × List·Memᴰ c (candidates net)
+      from l = (_, candidate-in net 0 (one (l .at)) (v .listed) (record { is-link = l .under; is-set = l .holds }))
+
+  -- ---- demand 2
+
+  pub candidate-agrees : (c : Candidate) (a : Answer) → List·Memᴰ c (candidates net) → a .best ≡ c → a .count ≡ size net (a .best .side) → Demand2 net a
+  unfolding candidate
+  candidate-agrees c a m e n = from (subst (Genuine net) (sym e) (candidate-of net c m))
+    where
+      most : (h : Handle) → named h ≤ 2
+      most (one e) = omega arith
+      most (two e f) = omega arith
+
+      from : Genuine net (a .best) → Demand2 net a
+      from g =
+          let t : Tree = treeAt net (a .best .tree) in
+          let sp = v .spanning (a .best .tree) (g .inside) in
+          let q : a .best .side ≡ sideOf net t (a .best .handle) = ap (λ (x : Candidate). x .side) (g .is) in
+          record {
+            tree-listed = g .inside;
+            links-fit = g .fits;
+            side-is = q;
+            side-crosses = rw q (sideOf-crosses sp (a .best .handle) (g .fits));
+            at-most-two = rw (q, sideOf-crossings sp (a .best .handle) (g .fits)) (most (a .best .handle));
+            weight-is = ap (λ (x : Candidate). x .weight) (g .is);
+            count-is = n;
+            conversely = λ i b s r. belongs (v .spanning i b) s r;
+          }
+
+  -- ---- demand 3
+
+  -- what agrees with the definition is proper, without the root, and weighs what is reported
+  agrees-proper : (a : Answer) → Demand2 net a → Proper net (a .best .side)
+  agrees-proper a d = rw (d .side-is) (handle-proper (v .spanning (a .best .tree) (d .tree-listed)) (a .best .handle) (d .links-fit))
+
+  agrees-rootless : (a : Answer) → Demand2 net a → Rootless net (a .best .side)
+  agrees-rootless a d = rw (d .side-is) (sideOf-rootless (v .spanning (a .best .tree) (d .tree-listed)) (a .best .handle) (d .links-fit))
+
+  agrees-weight : (a : Answer) → Demand2 net a → a .best .weight ≡ cutWeight net (a .best .side)
+  agrees-weight a d = d .weight-is ∙ weightOf-is net (treeAt net (a .best .tree)) (a .best .handle) ∙ ap (cutWeight net) (sym (d .side-is))
+
+  -- a side that crosses at most two members of a tree is a candidate's of that tree
+  pub reached : (s : Side) → Proper net s → Rootless net s → (i : ℕ) → i < length (net .trees) → Respects net (treeAt net i) s
+      → (c : Candidate) × List·Memᴰ c (candidates net) × (c .tree ≡ i) × (c .side ≡ s) × (c .weight ≡ cutWeight net s)
+  unfolding candidate
+  reached s p r i b l =
+      let o = belongs (v .spanning i b) s r (crossings-some (v .spanning i b) s p r) l in
+      (candidate net i (treeAt net i) (o .handle), candidate-in net i (o .handle) b (o .fits), refl, sym (o .stands), sym (o .weighs))
+
+  module _ {before : Candidate → Candidate → Bool} (o : Weighing before) (c : Candidate) (f : First before (candidates net) c) where
+    pub least : (d : Candidate) → List·Memᴰ d (candidates net) → c .weight ≤ d .weight
+    least d m = o .by-weight d c (first-least (o .order) f d m)
+
+    pub light : (s : Side) → Proper net s → (i : ℕ) → i < length (net .trees) → Respects net (treeAt net i) s → c .weight ≤ cutWeight net s
+    light s p i b l =
+        let u = turn net (v .linked) s p in
+        let d = reached (u .side) (u .proper) (u .rootless) i b (rw (u .crosses-as (treeAt net i)) l) in
+        let w = least (d .0) (d .1) in
+        let x = d .4 in
+        let z = u .weighs in
+        omega arith
+
+    -- what some of the trees that overload no link say of every cut
+    pub packed : (ts : List Tree) → ((t : Tree) → List·Memᴰ t ts → List·Memᴰ t (net .trees)) → overloaded net ts ≡ false
+        → (s : Side) → Proper net s → min (c .weight) (3 * shares ts) ≤ cutWeight net s
+    packed ts i e s p = step (few-or-many s)
+      where
+        step : ((i : ℕ) × (i < length (net .trees)) × (Respects net (treeAt net i) s)) ⊎ ((t : Tree) → List·Memᴰ t (net .trees) → 3 ≤ crossings net t s)
+            → min (c .weight) (3 * shares ts) ≤ cutWeight net s
+        step (inl r) = let l = light s p (r .0) (r .1) (r .2) in omega arith
+        step (inr r) = let l = packing net s 3 ts e (λ t m. r t (i t m)) in omega arith
+
+    pub floor-least : (ts : List Tree) → ((t : Tree) → List·Memᴰ t ts → List·Memᴰ t (net .trees)) → (s : Side) → Proper net s → floor net ts (c .weight) ≤ cutWeight net s
+    unfolding floor
+    floor-least ts i s p = step (overloaded net ts) refl
+      where
+        step : (o : Bool) → overloaded net ts ≡ o → cond o 0 (min (c .weight) (3 * shares ts)) ≤ cutWeight net s
+        step true e = omega arith
+        step false e = packed ts i e s p
+
+    -- the first comes before every other, or they are even and it stands in front
+    pub precedes : (d : Candidate) → List·Memᴰ d (candidates net) → (d ≡ c) ⊎ ((before c d ≡ true) ⊎ ((before d c ≡ false) × Earlier c d))
+    precedes d m = step (List·Memᴰ·append-cases (f .before) (rw (f .splits) at m))
+      where
+        last : (d ≡ c) ⊎ List·Memᴰ d (f .after) → (d ≡ c) ⊎ ((before c d ≡ true) ⊎ ((before d c ≡ false) × Earlier c d))
+        last (inl e) = inl e
+        last (inr i) = inr (inr (f .not-led d i, each-split Earlier (f .before) c (f .after) (rw (f .splits) at (candidates-earlier net)) .1 d i))
+
+        step : List·Memᴰ d (f .before) ⊎ List·Memᴰ d (c ∷ f .after) → (d ≡ c) ⊎ ((before c d ≡ true) ⊎ ((before d c ≡ false) × Earlier c d))
+        step (inl i) = inr (inl (f .leads d i))
+        step (inr i) = last (List·Memᴰ·cases-cons i)
+
+  floor-packed : (w : ℕ) → ((k : ℕ) → k < linkCount net → load (net .trees) k ≤ linkAt net k .weight) → floor net (net .trees) w ≡ min w (3 * shares (net .trees))
+  unfolding floor overloaded
+  floor-packed w h = step (anyTo (linkCount net) heavy) refl
+    where
+      heavy : ℕ → Bool
+      heavy k = ltb (linkAt net k .weight) (load (net .trees) k)
+
+      step : (o : Bool) → anyTo (linkCount net) heavy ≡ o → cond o 0 (min w (3 * shares (net .trees))) ≡ min w (3 * shares (net .trees))
+      step false e = refl
+      step true e = let r = anyTo-some (linkCount net) heavy e in let a : linkAt net (r .0) .weight < load (net .trees) (r .0) = ltb-true _ _ (r .2) in let b = h (r .0) (r .1) in absurd (omega arith)
+
+  floor-elsewhere : (w k : ℕ) → k < linkCount net → linkAt net k .weight < load (net .trees) k → floor net (net .trees) w ≡ 0
+  unfolding floor overloaded
+  floor-elsewhere w k b h = rw (anyTo-at (linkCount net) (λ j. ltb (linkAt net j .weight) (load (net .trees) j)) k b (lt-ltb _ _ h))
+
+  -- ---- the answer
+
+  chosen : Candidate
+  chosen = answer net .best
+
+  chosen-first : First lighter (candidates net) chosen
+  unfolding chosen answer judged
+  chosen-first = first-of (lighter-weighing .order) noCandidate (candidates net) (some-candidate .1)
+
+  pub answer-demand2 : Demand2 net (answer net)
+  unfolding chosen answer judged
+  answer-demand2 = candidate-agrees chosen (answer net) (first-in chosen-first) refl refl
+
+  pub answer-demand3 : Demand3 net (answer net)
+  unfolding chosen answer judged
+  answer-demand3 = record {
+    proper = agrees-proper (answer net) answer-demand2;
+    respects = (chosen .tree, answer-demand2 .tree-listed, answer-demand2 .at-most-two);
+    own-weight = agrees-weight (answer net) answer-demand2;
+    lightest = light lighter-weighing chosen chosen-first;
+    floor-packed = floor-packed (chosen .weight);
+    floor-elsewhere = floor-elsewhere (chosen .weight);
+    floor-bounds = floor-least lighter-weighing chosen chosen-first (net .trees) (λ t m. m);
+    marked = verdict-tells (floor net (net .trees) (chosen .weight)) (chosen .weight);
+  }
+
+  -- the reported candidate precedes every other
+  answer-precedes : (d : Candidate) → List·Memᴰ d (candidates net) → (d ≡ chosen) ⊎ Precedes chosen d
+  unfolding lighter
+  answer-precedes d m = step (precedes lighter-weighing chosen chosen-first d m)
+    where
+      step : (d ≡ chosen) ⊎ ((lighter chosen d ≡ true) ⊎ ((lighter d chosen ≡ false) × Earlier chosen d)) → (d ≡ chosen) ⊎ Precedes chosen d
+      step (inl e) = inl e
+      step (inr (inl e)) = inr (inl (ltb-true _ _ e))
+      step (inr (inr e)) = inr (even (eq-or-lt-of-le (ltb-false _ _ (e .0))))
+        where
+          even : (chosen .weight ≡ d .weight) ⊎ (chosen .weight < d .weight) → Precedes chosen d
+          even (inl q) = inr (q, e .1)
+          even (inr l) = inl l
+
+  pub answer-owed : Owed net (answer net)
+  unfolding chosen answer judged
+  answer-owed = record { demand2 = answer-demand2; demand3 = answer-demand3; rootless = agrees-rootless (answer net) answer-demand2; unmarked = verdict-else (answer net .floor) (chosen .weight); listed = first-in chosen-first; first = answer-precedes }
