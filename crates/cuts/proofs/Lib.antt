@@ -9,3 +9,5 @@ pub mod Packing
 pub mod Least
 pub mod Handles
 pub mod Demands
+pub mod Walks
+pub mod Growth
