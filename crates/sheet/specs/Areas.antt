@@ -1,0 +1,80 @@
+-- The side area and the report area (document 01, "Side area and report area"). Assumes nothing.
+--   sideBytes s                the 32 bytes of the side area: node k is bit k; past its last node a side has no flag set
+--   reportWidths               the widths of the report area's fields
+--   firstLink h, secondLink h  the links that a handle names; noSecond, 65535, stands for the second of a single one
+--   reportFields a             verdict, tree, nodes in the side, first link, second link, weight, floor
+--   reportBytes a              the 16 bytes of the report area
+--   written new old            an area that held `old`, with `new` written to its front: the rest stands as it stood
+--   sideAfter net old          the side area after the answer of the network is written; reportAfter: the report area
+--   sideRead nodes area        the side that stands in a side area
+--   handleOf e f               the handle whose links these are
+--   answerOf fs s              the answer with the fields fs and the side s
+--   answerRead nodes side r    the answer that stands in a side area and a report area
+use Prim.Native.Nat.{ℕ, _+_, _*_}
+use mathlib.Core.Bool.{cond}
+use mathlib.Core.List.{List, [], _∷_, _++_}
+use lib.ListN.{length, getD, drop}
+use lib.Dec.{eqb}
+use Rattle.cuts.specs.Sums.{table}
+use Rattle.cuts.specs.Network.{Network, flag}
+use Rattle.cuts.specs.Cut.{Side}
+use Rattle.cuts.specs.Candidate.{Handle, one, two}
+use Rattle.cuts.specs.Answer.{Answer, answer}
+use Rattle.sheet.specs.Bytes.{Bytes, fields, fieldBytes, mapBit, byteOf}
+
+unfoldable pub sideBytes : Side → Bytes
+unfolding table byteOf
+sideBytes s = table 32 (λ j. byteOf (λ i. flag s (8 * j + i)))
+
+abbrev pub reportWidths : List ℕ
+reportWidths = 1 ∷ 1 ∷ 2 ∷ 2 ∷ 2 ∷ 4 ∷ 4 ∷ []
+
+abbrev pub noSecond : ℕ
+noSecond = 65535
+
+abbrev pub firstLink : Handle → ℕ
+firstLink (one e) = e
+firstLink (two e f) = e
+
+abbrev pub secondLink : Handle → ℕ
+secondLink (one e) = noSecond
+secondLink (two e f) = f
+
+abbrev pub reportFields : Answer → List ℕ
+reportFields a =
+    a .verdict ∷ a .best .tree ∷ a .count ∷ firstLink (a .best .handle) ∷ secondLink (a .best .handle)
+    ∷ a .best .weight ∷ a .floor ∷ []
+
+unfoldable pub reportBytes : Answer → Bytes
+unfolding fieldBytes
+reportBytes a = fieldBytes reportWidths (reportFields a)
+
+abbrev pub written : Bytes → Bytes → Bytes
+written new old = new ++ drop (length new) old
+
+abbrev pub sideAfter : Network → Bytes → Bytes
+sideAfter net old = written (sideBytes (answer net .best .side)) old
+
+abbrev pub reportAfter : Network → Bytes → Bytes
+reportAfter net old = written (reportBytes (answer net)) old
+
+-- ---- reading back
+
+unfoldable pub sideRead : ℕ → Bytes → Side
+unfolding table
+sideRead nodes area = table nodes (mapBit area)
+
+abbrev pub handleOf : ℕ → ℕ → Handle
+handleOf e f = cond (eqb f noSecond) (one e) (two e f)
+
+abbrev pub answerOf : List ℕ → Side → Answer
+answerOf fs s = record {
+  best = record { tree = getD fs 1 0; handle = handleOf (getD fs 3 0) (getD fs 4 0); weight = getD fs 5 0; side = s };
+  count = getD fs 2 0;
+  floor = getD fs 6 0;
+  verdict = getD fs 0 0;
+}
+
+unfoldable pub answerRead : ℕ → Bytes → Bytes → Answer
+unfolding sideRead fields
+answerRead nodes side report = answerOf (fields reportWidths report) (sideRead nodes side)

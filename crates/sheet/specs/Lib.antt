@@ -1,0 +1,4 @@
+pub mod Bytes
+pub mod Reading
+pub mod Sheet
+pub mod Areas

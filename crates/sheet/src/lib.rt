@@ -1,0 +1,1 @@
+// The serialised network: specs/ says what its bytes give.
