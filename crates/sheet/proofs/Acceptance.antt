@@ -1,0 +1,171 @@
+-- A sheet that is accepted gives a sound network within document 01's limits: each limit is one of the checks that it passed.
+-- Assumes nothing.
+use Prim.Native.Nat.{ℕ, zero, suc, _+_, _-_, _*_, _≤_, _<_}
+use mathlib.Core.Path.{_≡_, refl, sym, ap, _∙_, subst}
+use mathlib.Core.Bool.{Bool, true, false, _&&_, _||_}
+use mathlib.Core.List.{List, [], _∷_}
+use native.Mathlib.Nat.{not-suc-le-zero}
+use native.Mathlib.Omega.{arith}
+use lib.ListN.{length, getD, drop}
+use lib.Dec.{eqb, leb, ltb}
+use borrow.Author.Tests.{ltb-false, leb-false, le-leb, eqb-true, eqb-false, not-false}
+use Rattle.cuts.specs.Sums.{countTo, anyTo, allTo}
+use Rattle.cuts.specs.Network.{Link, Tree, Network, Linked, noLink, noTree, flag, linkCount}
+use Rattle.cuts.specs.Tree.{memberCount, joins, spread, spreads, root, joined, spans}
+use Rattle.cuts.proofs.FlagLaws.{clash, neither}
+use Rattle.cuts.proofs.SumLaws.{anyTo-at, sum-congr, count-cut, table-length, table-at}
+use Rattle.sheet.specs.Bytes.{Bytes, mapBit}
+use Rattle.sheet.specs.Reading.{accepted, check, firstFailing, records}
+use Rattle.sheet.specs.Sheet.{Format, Accepted, nodesIn, linksIn, treesIn, headerChecks, linkIn, linkChecks, linkRecord, nextLink, mapLength, treeIn, treeChecks, treeRecord, network, decode}
+use Rattle.sheet.proofs.ReadingLaws.{passed, unless-accepted, andThen-accepted, All, records-all}
+
+-- ---- the header
+
+record Counted (sheet : Bytes) : Type 0 where
+  nodes-least : 2 ≤ nodesIn sheet
+  nodes-most : nodesIn sheet ≤ 256
+  links-least : nodesIn sheet - 1 ≤ linksIn sheet
+  links-most : linksIn sheet ≤ 2048
+  trees-least : 0 < treesIn sheet
+  trees-most : treesIn sheet ≤ 32
+
+counted : (sheet : Bytes) → firstFailing (headerChecks sheet) ≡ 0 → Counted sheet
+unfolding headerChecks
+counted sheet h =
+    let n : ℕ = nodesIn sheet in
+    let m : ℕ = linksIn sheet in
+    let t : ℕ = treesIn sheet in
+    let p = passed (headerChecks sheet) refl h in
+    let a = neither (ltb n 2) (ltb 256 n) (p .1 .0) in
+    let b = neither (ltb m (n - 1)) (ltb 2048 m) (p .1 .1 .0) in
+    let c = neither (eqb t 0) (ltb 32 t) (p .1 .1 .1 .0) in
+    record {
+      nodes-least = ltb-false n 2 (a .0);
+      nodes-most = ltb-false 256 n (a .1);
+      links-least = ltb-false m (n - 1) (b .0);
+      links-most = ltb-false 2048 m (b .1);
+      trees-least = positive t (eqb-false t 0 (c .0));
+      trees-most = ltb-false 32 t (c .1);
+    }
+  where
+    positive : (t : ℕ) → (t ≡ 0 → ⊥) → 0 < t
+    positive zero f = absurd (f refl)
+    positive (suc t) f = omega arith
+
+-- ---- links
+
+record GoodLink (f : Format) (nodes : ℕ) (l : Link) : Type 0 where
+  first-in : l .first < nodes
+  second-in : l .second < nodes
+  differ : l .first ≡ l .second → ⊥
+  light : l .weight ≤ f .weightLimit
+
+good-link : (f : Format) (nodes : ℕ) (got : List Link) (bs : Bytes) (l : Link) (rest : Bytes) → nextLink f nodes got bs ≡ accepted l rest → GoodLink f nodes l
+unfolding linkRecord linkChecks
+good-link f nodes got bs l rest e =
+    let before : Link = getD got (length got - 1) noLink in
+    let k : Link = linkIn f before bs in
+    let r = unless-accepted (firstFailing (linkChecks f nodes (eqb (length got) 0) before bs)) _ e in
+    let p = passed (linkChecks f nodes (eqb (length got) 0) before bs) refl (r .0) in
+    let a = neither (leb nodes (k .first) || leb nodes (k .second)) (eqb (k .first) (k .second)) (p .1 .1 .1 .0) in
+    let b = neither (leb nodes (k .first)) (leb nodes (k .second)) (a .0) in
+    let q : k ≡ l = cc in
+    subst (GoodLink f nodes) q (record {
+      first-in = leb-false nodes (k .first) (b .0);
+      second-in = leb-false nodes (k .second) (b .1);
+      differ = eqb-false (k .first) (k .second) (a .1);
+      light = ltb-false (f .weightLimit) (k .weight) (p .1 .1 .1 .1 .0);
+    })
+
+-- ---- trees
+
+record GoodTree (net : Network) (t : Tree) : Type 0 where
+  sized : length (t .members) ≡ linkCount net
+  counted : memberCount net t ≡ net .nodes - 1
+  spanning : spans net t ≡ true
+
+-- with no bit set from the link count up, the ones of the map are the members
+members-counted : (net : Network) (bs : Bytes) → anyTo (8 * mapLength (linkCount net)) (λ k. leb (linkCount net) k && mapBit (drop 4 bs) k) ≡ false
+    → memberCount net (treeIn net bs) ≡ countTo (8 * mapLength (linkCount net)) (mapBit (drop 4 bs))
+unfolding memberCount treeIn
+members-counted net bs h =
+    sum-congr (linkCount net) _ _ (λ k b. rw (table-at false (linkCount net) (mapBit (drop 4 bs)) k b))
+    ∙ sym (count-cut (linkCount net) (8 * mapLength (linkCount net)) (mapBit (drop 4 bs)) (omega arith) (λ k a b. clear k a b (mapBit (drop 4 bs) k) refl))
+  where
+    clear : (k : ℕ) → linkCount net ≤ k → k < 8 * mapLength (linkCount net) → (c : Bool) → mapBit (drop 4 bs) k ≡ c → c ≡ false
+    clear k a b false e = refl
+    clear k a b true e = clash (anyTo-at _ (λ j. leb (linkCount net) j && mapBit (drop 4 bs) j) k b (rw (le-leb (linkCount net) k a) e)) h
+
+members-sized : (net : Network) (bs : Bytes) → length (treeIn net bs .members) ≡ linkCount net
+unfolding treeIn
+members-sized net bs = table-length (linkCount net) _
+
+good-tree : (net : Network) (got : List Tree) (bs : Bytes) (t : Tree) (rest : Bytes) → treeRecord net bs ≡ accepted t rest → GoodTree net t
+unfolding treeRecord treeChecks
+good-tree net got bs t rest e =
+    let r = unless-accepted (firstFailing (treeChecks net bs)) _ e in
+    let p = passed (treeChecks net bs) refl (r .0) in
+    let q : treeIn net bs ≡ t = cc in
+    subst (GoodTree net) q (record {
+      sized = members-sized net bs;
+      counted = members-counted net bs (p .1 .0) ∙ eqb-true _ _ (not-false _ (p .1 .1 .0));
+      spanning = not-false _ (p .1 .1 .1 .0);
+    })
+
+-- which trees are listed does not matter to what links join
+module _ (nodes : ℕ) (links : List Link) (ts us : List Tree) where
+  spreads-any : (r : ℕ) (chosen : List Bool) → spreads r (network nodes links ts) chosen (root (network nodes links ts)) ≡ spreads r (network nodes links us) chosen (root (network nodes links us))
+  unfolding spreads spread joins root
+  spreads-any zero chosen = refl
+  spreads-any (suc r) chosen = ap (spread (network nodes links ts) chosen) (spreads-any r chosen)
+
+  spans-any : (t : Tree) → spans (network nodes links ts) t ≡ spans (network nodes links us) t
+  unfolding spans joined
+  spans-any t = ap (λ (s : List Bool). allTo nodes (flag s)) (spreads-any nodes (t .members))
+
+  good-any : {t : Tree} → GoodTree (network nodes links ts) t → GoodTree (network nodes links us) t
+  unfolding memberCount
+  good-any {t} g = record { sized = g .sized; counted = g .counted; spanning = sym (spans-any t) ∙ g .spanning }
+
+-- ---- the whole sheet
+
+none : {A : Type 0} (d : A) (Q : A → Type 0) → All d Q []
+none d Q i b = absurd (not-suc-le-zero b)
+
+pub decode-accepted : (f : Format) (sheet : Bytes) (net : Network) (rest : Bytes) → decode f sheet ≡ accepted net rest → Accepted f net
+unfolding decode
+decode-accepted f sheet net rest e =
+    let n : ℕ = nodesIn sheet in
+    let h = unless-accepted (firstFailing (headerChecks sheet)) _ e in
+    let c = counted sheet (h .0) in
+    let l = andThen-accepted (records (nextLink f n) (linksIn sheet) [] (drop 5 sheet)) _ (h .1) in
+    let t = andThen-accepted (records (λ _. treeRecord (network n (l .0) [])) (treesIn sheet) [] (l .1)) _ (l .3) in
+    let end = unless-accepted (firstFailing (check 16 (ltb 0 (length (t .1))) ∷ [])) _ (t .3) in
+    let q : network n (l .0) (t .0) ≡ net = cc in
+    subst (Accepted f) q (from c (l .0) (t .0)
+    (records-all noLink (GoodLink f n) (nextLink f n) (good-link f n) (linksIn sheet) [] (drop 5 sheet) (none noLink (GoodLink f n)) (l .2))
+    (records-all noTree (GoodTree (network n (l .0) [])) (λ _. treeRecord (network n (l .0) [])) (good-tree (network n (l .0) [])) (treesIn sheet) [] (l .1)
+    (none noTree (GoodTree (network n (l .0) []))) (t .2)))
+  where
+    from : Counted sheet → (links : List Link) (trees : List Tree) → All noLink (GoodLink f (nodesIn sheet)) links × (length links ≡ 0 + linksIn sheet)
+        → All noTree (GoodTree (network (nodesIn sheet) links [])) trees × (length trees ≡ 0 + treesIn sheet) → Accepted f (network (nodesIn sheet) links trees)
+    from c links trees g s =
+        let linked : Linked (network (nodesIn sheet) links trees) = record {
+          rooted = let a = c .nodes-least in omega arith;
+          first-in = λ k b. g .0 k b .first-in;
+          second-in = λ k b. g .0 k b .second-in;
+        } in
+        record {
+          sound = record {
+            several = c .nodes-least;
+            linked = linked;
+            listed = let a = c .trees-least in let b = s .1 in omega arith;
+            spanning = λ i b. let t = good-any (nodesIn sheet) links [] trees (s .0 i b) in record { linked = linked; counted = t .counted; spanning = t .spanning };
+          };
+          nodes-most = c .nodes-most;
+          links-most = let a = c .links-most in let b = g .1 in omega arith;
+          trees-most = let a = c .trees-most in let b = s .1 in omega arith;
+          ends-differ = λ k b. g .0 k b .differ;
+          weights-most = λ k b. g .0 k b .light;
+          members-sized = λ i b. s .0 i b .sized;
+        }

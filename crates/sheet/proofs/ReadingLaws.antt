@@ -1,0 +1,67 @@
+-- What is known where a value was read: each check passed, and each of the records read is one that `one` accepted.
+-- Assumes nothing.
+use Prim.Native.Nat.{ℕ, zero, suc, _+_, _<_}
+use mathlib.Core.Path.{_≡_, refl, sym, ap, subst}
+use mathlib.Core.Bool.{Bool, true, false, _&&_, cond, and-eq-true-iff}
+use mathlib.Core.List.{List, [], _∷_, _++_}
+use native.Mathlib.Omega.{arith}
+use lib.ListN.{length, getD, length-append, List·getD-append}
+use lib.Seq.{getD-append-seam}
+use lib.Dec.{eqb, ltb}
+use borrow.Author.Tests.{eqb-true, ltb-true}
+use Rattle.cuts.proofs.SumLaws.{all-suc}
+use Rattle.sheet.specs.Bytes.{Bytes}
+use Rattle.sheet.specs.Reading.{Check, firstFailing, Reading, accepted, refused, unless, andThen, records}
+
+-- every check passes, and every check has a number that is not 0
+abbrev pub Passed : List Check → Type 0
+Passed [] = Unit {0}
+Passed (c ∷ cs) = (c .fails ≡ false) × Passed cs
+
+abbrev pub numbered : List Check → Bool
+numbered [] = true
+numbered (c ∷ cs) = ltb 0 (c .refusal) && numbered cs
+
+pub passed : (cs : List Check) → numbered cs ≡ true → firstFailing cs ≡ 0 → Passed cs
+unfolding firstFailing
+passed [] m h = tt
+passed (c ∷ cs) m h = step (c .fails) refl h (passed cs)
+  where
+    step : (b : Bool) → c .fails ≡ b → cond b (c .refusal) (firstFailing cs) ≡ 0 → (numbered cs ≡ true → firstFailing cs ≡ 0 → Passed cs) → (c .fails ≡ false) × Passed cs
+    step false e h r = (e, r (and-eq-true-iff (ltb 0 (c .refusal)) (numbered cs) .0 m .1) h)
+    step true e h r = let l = ltb-true 0 (c .refusal) (and-eq-true-iff (ltb 0 (c .refusal)) (numbered cs) .0 m .0) in absurd (omega arith)
+
+not-refused : {A B : Type 0} {n : ℕ} {x : A} {rest : Bytes} → refused n ≡ accepted x rest → B
+not-refused p = let z : _≡_ {A = ℕ} 0 1 = cc in absurd (omega arith)
+
+pub unless-accepted : {A : Type 0} (n : ℕ) (r : Reading A) {x : A} {rest : Bytes} → unless n r ≡ accepted x rest → (n ≡ 0) × (r ≡ accepted x rest)
+unless-accepted {A} n r {x} {rest} h = step (eqb n 0) refl h
+  where
+    step : (b : Bool) → eqb n 0 ≡ b → cond b r (refused n) ≡ accepted x rest → (n ≡ 0) × (r ≡ accepted x rest)
+    step true e h = (eqb-true n 0 e, h)
+    step false e h = not-refused h
+
+pub andThen-accepted : {A B : Type 0} (r : Reading A) (next : A → Bytes → Reading B) {y : B} {end : Bytes} → andThen r next ≡ accepted y end
+    → (x : A) × (rest : Bytes) × (r ≡ accepted x rest) × (next x rest ≡ accepted y end)
+andThen-accepted (accepted x rest) next h = (x, rest, refl, h)
+andThen-accepted (refused n) next h = not-refused h
+
+-- every entry of the list passes Q
+abbrev pub All : {A : Type 0} → A → (A → Type 0) → List A → Type 0
+All d Q xs = (i : ℕ) → i < length xs → Q (getD xs i d)
+
+all-snoc : {A : Type 0} (d : A) (Q : A → Type 0) (xs : List A) (x : A) → All d Q xs → Q x → All d Q (xs ++ x ∷ [])
+all-snoc d Q xs x h q i b =
+    all-suc (λ j. Q (getD (xs ++ x ∷ []) j d)) (length xs)
+    (λ j c. subst Q (sym (List·getD-append xs (x ∷ []) d j c)) (h j c))
+    (subst Q (sym (getD-append-seam xs x [] d)) q) i (let e = length-append xs (x ∷ []) in omega arith)
+
+module _ {A : Type 0} (d : A) (Q : A → Type 0) (one : List A → Bytes → Reading A) (good : (got : List A) (bs : Bytes) (x : A) (rest : Bytes) → one got bs ≡ accepted x rest → Q x) where
+  pub records-all : (k : ℕ) (got : List A) (bs : Bytes) {xs : List A} {rest : Bytes} → All d Q got → records one k got bs ≡ accepted xs rest → All d Q xs × (length xs ≡ length got + k)
+  unfolding records
+  records-all zero got bs {xs} h e = let q : got ≡ xs = cc in (subst (All d Q) q h, let l : length got ≡ length xs = ap length q in omega arith)
+  records-all (suc k) got bs h e =
+      let r = andThen-accepted (one got bs) (λ x rest. records one k (got ++ x ∷ []) rest) e in
+      let s = records-all k (got ++ r .0 ∷ []) (r .1) (all-snoc d Q got (r .0) h (good got bs (r .0) (r .1) (r .2))) (r .3) in
+      let l = length-append got (r .0 ∷ []) in
+      (s .0, let m = s .1 in omega arith)
