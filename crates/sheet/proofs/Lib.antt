@@ -1,2 +1,4 @@
 pub mod ReadingLaws
 pub mod Acceptance
+pub mod ByteLaws
+pub mod AreaLaws

@@ -1,0 +1,121 @@
+-- What is written to the two areas is read back: the answer of every accepted sheet fits its fields and its side the 32 bytes, so
+-- that what stands in the areas afterwards is that answer, and all that is owed of the answer is owed of those bytes.
+-- Assumes nothing.
+use Prim.Native.Nat.{ℕ, _≤_, _<_}
+use mathlib.Core.Path.{_≡_, refl, sym, ap, ap₂, _∙_}
+use mathlib.Core.Bool.{Bool, true, false, cond}
+use native.Mathlib.Omega.{arith}
+use lib.ListN.{length, drop}
+use lib.Seq.{ext-getD}
+use lib.Dec.{eqb}
+use borrow.Author.Tests.{ne-eqb}
+use Rattle.cuts.specs.Sums.{table}
+use Rattle.cuts.specs.Network.{Network, flag, treeAt}
+use Rattle.cuts.specs.Cut.{Side}
+use Rattle.cuts.specs.Candidate.{Handle, Fits, one, two}
+use Rattle.cuts.specs.Answer.{Answer, judged, answer}
+use Rattle.cuts.specs.Demands.{Owed}
+use Rattle.cuts.proofs.SumLaws.{table-length, table-at}
+use Rattle.cuts.proofs.CutLaws.{cutWeight-most}
+use Rattle.cuts.proofs.Demands.{answer-demand2, answer-demand3, answer-owed}
+use Rattle.sheet.specs.Bytes.{Bytes, mapBit}
+use Rattle.sheet.specs.Reading.{accepted}
+use Rattle.sheet.specs.Sheet.{Accepted, base, decode}
+use Rattle.sheet.specs.Areas.{sideBytes, reportWidths, reportFields, reportBytes, noSecond, firstLink, secondLink, written, sideAfter, reportAfter, sideRead, handleOf, answerOf, answerRead}
+use Rattle.sheet.proofs.Acceptance.{decode-accepted}
+use Rattle.sheet.proofs.ByteLaws.{Fitting, fields-fieldBytes, mapBit-table}
+
+pub sideBytes-length : (s : Side) → length (sideBytes s) ≡ 32
+unfolding sideBytes
+sideBytes-length s = refl
+
+pub reportBytes-length : (a : Answer) → length (reportBytes a) ≡ 16
+unfolding reportBytes
+reportBytes-length a = refl
+
+-- ---- the side
+
+pub sideRead-written : (nodes : ℕ) (s : Side) (old : Bytes) → length s ≡ nodes → nodes ≤ 256 → sideRead nodes (written (sideBytes s) old) ≡ s
+unfolding sideRead sideBytes
+sideRead-written nodes s old e m =
+    ext-getD false (table nodes (mapBit (written (sideBytes s) old))) s (table-length nodes _ ∙ sym e)
+    (λ k b. let c : k < nodes = rw (table-length nodes (mapBit (written (sideBytes s) old))) at b in
+    table-at false nodes (mapBit (written (sideBytes s) old)) k c ∙ mapBit-table 32 (flag s) (drop 32 old) k (omega arith))
+
+-- ---- the report
+
+-- the handle's links are below m
+abbrev LinksBelow : ℕ → Handle → Type 0
+LinksBelow m (one e) = e < m
+LinksBelow m (two e f) = (e < m) × (f < m)
+
+handleOf-links : (h : Handle) → LinksBelow noSecond h → handleOf (firstLink h) (secondLink h) ≡ h
+handleOf-links (one e) b = refl
+handleOf-links (two e f) b = rw (ne-eqb f noSecond (λ q. let l = b .1 in omega arith))
+
+pub answerRead-written : (nodes : ℕ) (a : Answer) (side report : Bytes) → length (a .best .side) ≡ nodes → nodes ≤ 256 → LinksBelow noSecond (a .best .handle)
+    → Fitting reportWidths (reportFields a) → answerRead nodes (written (sideBytes (a .best .side)) side) (written (reportBytes a) report) ≡ a
+unfolding answerRead reportBytes
+answerRead-written nodes a side report e m l f =
+    ap₂ answerOf (fields-fieldBytes reportWidths (reportFields a) (drop 16 report) f) (sideRead-written nodes (a .best .side) side e m)
+    ∙ ap (λ (h : Handle). answerWith h) (handleOf-links (a .best .handle) l)
+  where
+    answerWith : Handle → Answer
+    answerWith h = record {
+      best = record { tree = a .best .tree; handle = h; weight = a .best .weight; side = a .best .side };
+      count = a .count;
+      floor = a .floor;
+      verdict = a .verdict;
+    }
+
+-- ---- the answer of an accepted sheet
+
+module _ (net : Network) (v : Accepted base net) where
+  links-below : (h : Handle) → Fits net (treeAt net (answer net .best .tree)) h → LinksBelow noSecond h
+  links-below (one e) m = let b = m .is-link in let c = v .links-most in omega arith
+  links-below (two e f) m = let b = m .1 .is-link in let d = m .2 .is-link in let c = v .links-most in (omega arith, omega arith)
+
+  links-small : (h : Handle) → LinksBelow noSecond h → (firstLink h < 65536) × (secondLink h < 65536)
+  links-small (one e) b = (omega arith, omega arith)
+  links-small (two e f) b = (omega arith, omega arith)
+
+  verdict-most : answer net .verdict ≤ 2
+  unfolding answer judged
+  verdict-most = step (eqb (answer net .floor) (answer net .best .weight))
+    where
+      step : (b : Bool) → _≤_ (cond b 2 1) 2
+      step true = omega arith
+      step false = omega arith
+
+  answer-fitting : Fitting reportWidths (reportFields (answer net))
+  answer-fitting =
+      let d2 = answer-demand2 net (v .sound) in
+      let d3 = answer-demand3 net (v .sound) in
+      let n = v .nodes-most in
+      let m = v .links-most in
+      let t = v .trees-most in
+      let tree = d2 .tree-listed in
+      let count = d2 .count-is in
+      let full = d3 .proper .not-full in
+      let links = links-small (answer net .best .handle) (links-below (answer net .best .handle) (d2 .links-fit)) in
+      let weight = d3 .own-weight in
+      let most = cutWeight-most net 1_000_000 (v .weights-most) (answer net .best .side) in
+      let bound = d3 .floor-bounds (answer net .best .side) (d3 .proper) in
+      let verdict = verdict-most in
+      (omega arith, (omega arith, (omega arith, (links .0, (links .1, (omega arith, (omega arith, tt)))))))
+
+  -- what stands in the areas afterwards is the answer
+  pub answer-back : (side report : Bytes) → answerRead (net .nodes) (sideAfter net side) (reportAfter net report) ≡ answer net
+  answer-back side report =
+      let d2 = answer-demand2 net (v .sound) in
+      answerRead-written (net .nodes) (answer net) side report (answer-demand3 net (v .sound) .proper .sized) (v .nodes-most)
+      (links-below (answer net .best .handle) (d2 .links-fit)) answer-fitting
+
+  -- and what is owed of the answer is owed of what stands there
+  pub areas-owed : (side report : Bytes) → Owed net (answerRead (net .nodes) (sideAfter net side) (reportAfter net report))
+  areas-owed side report = rw (answer-back side report) (answer-owed net (v .sound))
+
+-- from the bytes of the sheet to the bytes of the areas
+pub sheet-owed : (sheet : Bytes) (net : Network) (rest : Bytes) → decode base sheet ≡ accepted net rest → (side report : Bytes)
+    → Owed net (answerRead (net .nodes) (sideAfter net side) (reportAfter net report))
+sheet-owed sheet net rest e = areas-owed net (decode-accepted base sheet net rest e)

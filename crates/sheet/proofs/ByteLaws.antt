@@ -1,0 +1,67 @@
+-- Numbers and flags written as bytes and read again.
+-- Assumes nothing.
+use Prim.Native.Nat.{ℕ, zero, suc, _+_, _*_, _/_, _%_, _^_, _<_}
+use mathlib.Core.Path.{_≡_, refl, ap, ap₂, _∙_}
+use mathlib.Core.Bool.{Bool, true, false, Bool·beq}
+use mathlib.Core.List.{List, [], _∷_, _++_, append-assoc}
+use native.Mathlib.Omega.{arith}
+use lib.ListN.{length, List·getD-append}
+use lib.Seq.{drop-at}
+use Rattle.cuts.specs.Sums.{allTo, table}
+use Rattle.cuts.specs.Network.{flag}
+use Rattle.cuts.proofs.FlagLaws.{flags-equal, one-table}
+use Rattle.cuts.proofs.SumLaws.{allTo-at, table-at, table-length}
+use Rattle.sheet.specs.Bytes.{Bytes, number, bytesOf, fields, fieldBytes, bit, mapBit, byteOf}
+
+-- ---- numbers
+
+pub bytesOf-length : (w v : ℕ) → length (bytesOf w v) ≡ w
+unfolding bytesOf
+bytesOf-length zero v = refl
+bytesOf-length (suc w) v = ap suc (bytesOf-length w (v / 256))
+
+pub number-bytesOf : (w v : ℕ) (rest : Bytes) → v < 256 ^ w → number w (bytesOf w v ++ rest) ≡ v
+unfolding number bytesOf
+number-bytesOf zero v rest h = omega arith
+number-bytesOf (suc w) v rest h = let r = number-bytesOf w (v / 256) rest (omega arith) in omega arith
+
+-- each number fits its width
+abbrev pub Fitting : List ℕ → List ℕ → Type 0
+Fitting [] [] = Unit {0}
+Fitting [] (v ∷ vs) = ⊥
+Fitting (w ∷ ws) [] = ⊥
+Fitting (w ∷ ws) (v ∷ vs) = (v < 256 ^ w) × Fitting ws vs
+
+pub fields-fieldBytes : (ws vs : List ℕ) (rest : Bytes) → Fitting ws vs → fields ws (fieldBytes ws vs ++ rest) ≡ vs
+unfolding fields fieldBytes
+fields-fieldBytes [] [] rest h = refl
+fields-fieldBytes [] (v ∷ vs) rest h = absurd h
+fields-fieldBytes (w ∷ ws) [] rest h = absurd h
+fields-fieldBytes (w ∷ ws) (v ∷ vs) rest h =
+    rw append-assoc (ap₂ _∷_ (number-bytesOf w v (fieldBytes ws vs ++ rest) (h .0))
+    (ap (fields ws) (drop-at (bytesOf w v) (fieldBytes ws vs ++ rest) w (bytesOf-length w v)) ∙ fields-fieldBytes ws vs rest (h .1)))
+
+-- ---- flags
+
+-- the bits of the byte of eight flags, by its table
+eight : (a b c d e f g h : Bool) → allTo 8 (λ r. Bool·beq (bit (byteOf (flag (a ∷ b ∷ c ∷ d ∷ e ∷ f ∷ g ∷ h ∷ []))) r) (flag (a ∷ b ∷ c ∷ d ∷ e ∷ f ∷ g ∷ h ∷ []) r)) ≡ true
+unfolding allTo byteOf
+eight =
+    one-table 8 (λ a b c d e f g h. allTo 8 (λ r. Bool·beq (bit (byteOf (flag (a ∷ b ∷ c ∷ d ∷ e ∷ f ∷ g ∷ h ∷ []))) r) (flag (a ∷ b ∷ c ∷ d ∷ e ∷ f ∷ g ∷ h ∷ []) r)))
+    (λ a b c d e f g h. true) refl
+
+pub bit-byteOf : (f : ℕ → Bool) (r : ℕ) → r < 8 → bit (byteOf f) r ≡ f r
+unfolding byteOf table
+bit-byteOf f r b =
+    flags-equal (bit (byteOf f) r) (flag (table 8 f) r) (allTo-at 8 (λ i. Bool·beq (bit (byteOf f) i) (flag (table 8 f) i)) (eight (f 0) (f 1) (f 2) (f 3) (f 4) (f 5) (f 6) (f 7)) r b)
+    ∙ table-at false 8 f r b
+
+-- a map of n bytes that holds the flags f
+pub mapBit-table : (n : ℕ) (f : ℕ → Bool) (rest : Bytes) (k : ℕ) → k < 8 * n → mapBit (table n (λ j. byteOf (λ i. f (8 * j + i))) ++ rest) k ≡ f k
+mapBit-table n f rest k b =
+    ap (λ (x : ℕ). bit x (k % 8)) (List·getD-append (table n byte) rest 0 (k / 8) (let e = table-length n byte in omega arith) ∙ table-at 0 n byte (k / 8) (omega arith))
+    ∙ bit-byteOf (λ i. f (8 * (k / 8) + i)) (k % 8) (omega arith)
+    ∙ ap f (let e : 8 * (k / 8) + k % 8 ≡ k = omega arith in e)
+  where
+    byte : ℕ → ℕ
+    byte j = byteOf (λ i. f (8 * j + i))
