@@ -2,3 +2,4 @@ pub mod ReadingLaws
 pub mod Acceptance
 pub mod ByteLaws
 pub mod AreaLaws
+pub mod Cases

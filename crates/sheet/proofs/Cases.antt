@@ -1,0 +1,230 @@
+-- Document 01's "Networks to try" and what else its words pin down, proved of the definitions together by computing four tables.
+--   Case             a sheet, the numbers of its answer line, with 65535 for `-`, and the nodes of its side line
+--   starred          the starred networks A to H, H with each of its shares
+--   others           network I, inherited fields, and maps of a full byte and of two bytes
+--   reported bs      the sheet bs and what both areas hold after it, read back from their bytes
+--   Layout           a sheet and the bytes of both areas
+--   layouts          the bytes of both areas for A, E and F
+--   laidOut bs       the sheet bs and the bytes of both areas
+--   Refusal          a sheet and the number that refuses it
+--   refusals         sheets with one fault, then sheets with two, of which the first in document 01's list counts
+--   refusalOf bs     the sheet bs and the number that refuses it
+-- Assumes nothing.
+use Prim.Native.Nat.{ℕ}
+use mathlib.Core.Path.{_≡_, refl}
+use mathlib.Core.List.{List, [], _∷_, _++_, map}
+use lib.ListN.{replicate}
+use Rattle.cuts.specs.Sums.{select}
+use Rattle.cuts.specs.Network.{Network, flag}
+use Rattle.cuts.specs.Answer.{Answer, answer}
+use Rattle.sheet.specs.Bytes.{Bytes}
+use Rattle.sheet.specs.Reading.{Reading, accepted, refused, numberOf}
+use Rattle.sheet.specs.Sheet.{base, decode}
+use Rattle.sheet.specs.Areas.{sideBytes, reportBytes, sideAfter, reportAfter, answerRead, firstLink, secondLink}
+
+-- ---- sheets of small numbers: a header, link records with all fields, and a tree record with a map of one byte
+
+abbrev header : ℕ → ℕ → ℕ → Bytes
+header n m t = n ∷ 0 ∷ m ∷ 0 ∷ t ∷ []
+
+abbrev link : ℕ → ℕ → ℕ → Bytes
+link x y w = 7 ∷ x ∷ 0 ∷ y ∷ 0 ∷ w ∷ 0 ∷ 0 ∷ 0 ∷ []
+
+abbrev tree : ℕ → ℕ → Bytes
+tree share members = share ∷ 0 ∷ 0 ∷ 0 ∷ members ∷ []
+
+-- the third link inherits the second end of the second
+abbrev triangle : Bytes
+triangle = header 3 3 1 ++ link 0 1 3 ++ link 1 2 2 ++ 5 ∷ 0 ∷ 0 ∷ 4 ∷ 0 ∷ 0 ∷ 0 ∷ []
+
+abbrev ring : ℕ → Bytes
+ring trees = header 4 4 trees ++ link 0 1 1 ++ link 1 2 1 ++ link 2 3 1 ++ link 3 0 1
+
+abbrev thickRing : Bytes
+thickRing = header 3 3 1 ++ link 0 1 1 ++ link 1 2 1 ++ link 0 2 10
+
+abbrev ladder : Bytes
+ladder = header 4 5 1 ++ link 0 1 1 ++ link 1 2 1 ++ link 2 3 1 ++ link 0 2 10 ++ link 1 3 10
+
+abbrev bridge : ℕ → Bytes
+bridge w = header 2 1 1 ++ link 0 1 w
+
+-- links 1-0:2, 1-2:2 and 1-2:2, of which the second has only its second end and the third no field
+abbrev inherited : Bytes
+inherited = header 3 3 1 ++ link 1 0 2 ++ 2 ∷ 2 ∷ 0 ∷ 0 ∷ []
+
+-- m parallel links of weight 1
+abbrev parallel : ℕ → Bytes → Bytes
+parallel m rest = header 2 m 1 ++ link 0 1 1 ++ rest
+
+-- three of four nodes joined by links 0 to 2
+abbrev split : ℕ → Bytes
+split trees = header 4 4 trees ++ link 0 1 1 ++ link 0 1 1 ++ link 1 2 1 ++ link 2 3 1
+
+-- ---- accepted
+
+record Case : Type 0 where
+  sheet : Bytes
+  line : List ℕ
+  nodes : List ℕ
+
+abbrev gives : Bytes → List ℕ → List ℕ → Case
+gives bs line nodes = record { sheet = bs; line = line; nodes = nodes }
+
+starred : List Case
+starred =
+    -- A: a triangle, whole
+    gives (triangle ++ tree 2 5) (2 ∷ 5 ∷ 5 ∷ 0 ∷ 0 ∷ 65535 ∷ 1 ∷ []) (1 ∷ [])
+    -- B: the triangle with share 1
+    ∷ gives (triangle ++ tree 1 5) (1 ∷ 5 ∷ 3 ∷ 0 ∷ 0 ∷ 65535 ∷ 1 ∷ []) (1 ∷ [])
+    -- C: a ring, share 1
+    ∷ gives (ring 1 ++ tree 1 7) (2 ∷ 2 ∷ 2 ∷ 0 ∷ 0 ∷ 65535 ∷ 3 ∷ []) (1 ∷ 2 ∷ 3 ∷ [])
+    -- D: the ring with share 0
+    ∷ gives (ring 1 ++ tree 0 7) (1 ∷ 2 ∷ 0 ∷ 0 ∷ 0 ∷ 65535 ∷ 3 ∷ []) (1 ∷ 2 ∷ 3 ∷ [])
+    -- E: a ring whose lightest cut crosses two tree links
+    ∷ gives (thickRing ++ tree 1 3) (2 ∷ 2 ∷ 2 ∷ 0 ∷ 0 ∷ 1 ∷ 1 ∷ []) (1 ∷ [])
+    -- F: a lighter side, of nodes 1 and 3, crosses three tree links
+    ∷ gives (ladder ++ tree 1 7) (1 ∷ 11 ∷ 3 ∷ 0 ∷ 0 ∷ 65535 ∷ 3 ∷ []) (1 ∷ 2 ∷ 3 ∷ [])
+    -- G: a link of weight 0
+    ∷ gives (bridge 0 ++ tree 7 1) (2 ∷ 0 ∷ 0 ∷ 0 ∷ 0 ∷ 65535 ∷ 1 ∷ []) (1 ∷ [])
+    -- H: a link of weight 4, share 1
+    ∷ gives (bridge 4 ++ tree 1 1) (1 ∷ 4 ∷ 3 ∷ 0 ∷ 0 ∷ 65535 ∷ 1 ∷ []) (1 ∷ [])
+    -- H: share 2
+    ∷ gives (bridge 4 ++ tree 2 1) (2 ∷ 4 ∷ 4 ∷ 0 ∷ 0 ∷ 65535 ∷ 1 ∷ []) (1 ∷ [])
+    -- H: share 4
+    ∷ gives (bridge 4 ++ tree 4 1) (2 ∷ 4 ∷ 4 ∷ 0 ∷ 0 ∷ 65535 ∷ 1 ∷ []) (1 ∷ [])
+    -- H: share 5, more than the link carries
+    ∷ gives (bridge 4 ++ tree 5 1) (1 ∷ 4 ∷ 0 ∷ 0 ∷ 0 ∷ 65535 ∷ 1 ∷ []) (1 ∷ [])
+    ∷ []
+
+others : List Case
+others =
+    -- I: the ring with a second tree, both shares 0
+    gives (ring 2 ++ tree 0 7 ++ tree 0 14) (1 ∷ 2 ∷ 0 ∷ 0 ∷ 0 ∷ 65535 ∷ 3 ∷ []) (1 ∷ 2 ∷ 3 ∷ [])
+    ∷ gives (inherited ++ tree 0 3) (1 ∷ 2 ∷ 0 ∷ 0 ∷ 0 ∷ 65535 ∷ 2 ∷ []) (1 ∷ 2 ∷ [])
+    -- eight links with link 7 in the tree, and nine with link 8
+    ∷ gives (parallel 8 (replicate 7 0) ++ tree 0 128) (1 ∷ 8 ∷ 0 ∷ 0 ∷ 7 ∷ 65535 ∷ 1 ∷ []) (1 ∷ [])
+    ∷ gives (parallel 9 (replicate 8 0) ++ tree 0 0 ++ 1 ∷ []) (1 ∷ 9 ∷ 0 ∷ 0 ∷ 8 ∷ 65535 ∷ 1 ∷ []) (1 ∷ [])
+    -- weight 1,000,000
+    ∷ gives (header 2 1 1 ++ 7 ∷ 0 ∷ 0 ∷ 1 ∷ 0 ∷ 64 ∷ 66 ∷ 15 ∷ 0 ∷ tree 0 1) (1 ∷ 1000000 ∷ 0 ∷ 0 ∷ 0 ∷ 65535 ∷ 1 ∷ []) (1 ∷ [])
+    ∷ []
+
+abbrev caseOf : Bytes → Network → Answer → Case
+caseOf bs net a =
+    gives bs
+    (a .verdict ∷ a .best .weight ∷ a .floor ∷ a .best .tree ∷ firstLink (a .best .handle) ∷ secondLink (a .best .handle)
+    ∷ a .count ∷ [])
+    (select (net .nodes) (flag (a .best .side)))
+
+abbrev caseRead : Bytes → Reading Network → Case
+caseRead bs (accepted net rest) = caseOf bs net (answerRead (net .nodes) (sideAfter net []) (reportAfter net []))
+caseRead bs (refused n) = gives bs (n ∷ []) []
+
+reported : Bytes → Case
+unfolding decode answer answerRead sideBytes reportBytes select
+reported bs = caseRead bs (decode base bs)
+
+starred-reported : map (λ c. reported (c .sheet)) starred ≡ starred
+unfolding starred reported
+starred-reported = refl
+
+others-reported : map (λ c. reported (c .sheet)) others ≡ others
+unfolding others reported
+others-reported = refl
+
+-- ---- the bytes of the areas
+
+record Layout : Type 0 where
+  sheet : Bytes
+  side : Bytes
+  report : Bytes
+
+abbrev lays : Bytes → Bytes → Bytes → Layout
+lays bs side report = record { sheet = bs; side = side; report = report }
+
+layouts : List Layout
+layouts =
+    lays (triangle ++ tree 2 5) (2 ∷ replicate 31 0) (2 ∷ 0 ∷ 1 ∷ 0 ∷ 0 ∷ 0 ∷ 255 ∷ 255 ∷ 5 ∷ 0 ∷ 0 ∷ 0 ∷ 5 ∷ 0 ∷ 0 ∷ 0 ∷ [])
+    ∷ lays (thickRing ++ tree 1 3) (2 ∷ replicate 31 0) (2 ∷ 0 ∷ 1 ∷ 0 ∷ 0 ∷ 0 ∷ 1 ∷ 0 ∷ 2 ∷ 0 ∷ 0 ∷ 0 ∷ 2 ∷ 0 ∷ 0 ∷ 0 ∷ [])
+    ∷ lays (ladder ++ tree 1 7) (14 ∷ replicate 31 0) (1 ∷ 0 ∷ 3 ∷ 0 ∷ 0 ∷ 0 ∷ 255 ∷ 255 ∷ 11 ∷ 0 ∷ 0 ∷ 0 ∷ 3 ∷ 0 ∷ 0 ∷ 0 ∷ [])
+    ∷ []
+
+abbrev layoutRead : Bytes → Reading Network → Layout
+layoutRead bs (accepted net rest) = lays bs (sideAfter net []) (reportAfter net [])
+layoutRead bs (refused n) = lays bs [] []
+
+laidOut : Bytes → Layout
+unfolding decode answer sideBytes reportBytes
+laidOut bs = layoutRead bs (decode base bs)
+
+layouts-written : map (λ l. laidOut (l .sheet)) layouts ≡ layouts
+unfolding layouts laidOut
+layouts-written = refl
+
+-- ---- refused
+
+record Refusal : Type 0 where
+  sheet : Bytes
+  number : ℕ
+
+abbrev refuses : ℕ → Bytes → Refusal
+refuses n bs = record { sheet = bs; number = n }
+
+-- a link of weight 1,000,001 between x and y
+abbrev heavy : ℕ → ℕ → Bytes
+heavy x y = 7 ∷ x ∷ 0 ∷ y ∷ 0 ∷ 65 ∷ 66 ∷ 15 ∷ 0 ∷ []
+
+refusals : List Refusal
+refusals =
+    refuses 3 (2 ∷ 0 ∷ 1 ∷ 0 ∷ [])
+    -- 1 and 257 nodes
+    ∷ refuses 4 (header 1 1 1 ++ link 0 1 4 ++ tree 1 1)
+    ∷ refuses 4 (1 ∷ 1 ∷ 1 ∷ 0 ∷ 1 ∷ [])
+    -- three nodes with 1 link, and 2,049 links
+    ∷ refuses 5 (header 3 1 1 ++ link 0 1 4 ++ tree 1 1)
+    ∷ refuses 5 (2 ∷ 0 ∷ 1 ∷ 8 ∷ 1 ∷ [])
+    -- 0 and 33 trees
+    ∷ refuses 6 (header 2 1 0 ++ link 0 1 4)
+    ∷ refuses 6 (header 2 1 33 ++ link 0 1 4 ++ tree 1 1)
+    ∷ refuses 7 (header 2 1 1)
+    -- link 0 without its weight, and a map byte of 8
+    ∷ refuses 8 (header 2 1 1 ++ 3 ∷ 0 ∷ 0 ∷ 1 ∷ 0 ∷ [])
+    ∷ refuses 8 (header 2 2 1 ++ link 0 1 4 ++ 8 ∷ [])
+    ∷ refuses 9 (header 2 1 1 ++ 7 ∷ 0 ∷ 0 ∷ 1 ∷ 0 ∷ 4 ∷ 0 ∷ 0 ∷ [])
+    -- an end outside, and both ends equal
+    ∷ refuses 10 (header 2 1 1 ++ link 0 2 4 ++ tree 1 1)
+    ∷ refuses 10 (header 2 1 1 ++ link 1 1 4 ++ tree 1 1)
+    ∷ refuses 11 (header 2 1 1 ++ heavy 0 1 ++ tree 1 1)
+    ∷ refuses 12 (bridge 4 ++ 1 ∷ 0 ∷ 0 ∷ 0 ∷ [])
+    -- a bit past the link count; all four links in the tree
+    ∷ refuses 13 (triangle ++ tree 2 9)
+    ∷ refuses 14 (ring 1 ++ tree 1 15)
+    -- three links in the tree, two of them parallel
+    ∷ refuses 15 (split 1 ++ tree 1 7)
+    ∷ refuses 16 (triangle ++ tree 2 5 ++ 0 ∷ [])
+    -- two faults in the header
+    ∷ refuses 4 (header 1 0 0)
+    ∷ refuses 5 (header 3 1 0)
+    ∷ refuses 6 (header 2 1 0)
+    -- in a link: 8 and 9, 9 and 10, 10 and 11
+    ∷ refuses 8 (header 2 1 1 ++ 255 ∷ [])
+    ∷ refuses 9 (header 2 1 1 ++ 7 ∷ 1 ∷ 0 ∷ 1 ∷ 0 ∷ 4 ∷ [])
+    ∷ refuses 10 (header 2 1 1 ++ heavy 1 1)
+    -- in two links, and in a link and a tree
+    ∷ refuses 11 (header 2 2 1 ++ heavy 0 1 ++ 8 ∷ [])
+    ∷ refuses 10 (header 2 1 1 ++ link 0 2 4 ++ tree 1 3)
+    -- in a tree: 13 and 14, 14 and 15
+    ∷ refuses 13 (triangle ++ tree 2 13)
+    ∷ refuses 14 (ring 1 ++ tree 1 1)
+    -- in two trees, and behind the last
+    ∷ refuses 15 (split 2 ++ tree 1 7)
+    ∷ refuses 15 (split 1 ++ tree 1 7 ++ 0 ∷ [])
+    ∷ []
+
+refusalOf : Bytes → Refusal
+unfolding decode
+refusalOf bs = refuses (numberOf (decode base bs)) bs
+
+refusals-given : map (λ r. refusalOf (r .sheet)) refusals ≡ refusals
+unfolding refusals refusalOf
+refusals-given = refl
