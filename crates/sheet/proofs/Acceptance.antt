@@ -15,7 +15,7 @@ use Rattle.cuts.specs.Tree.{memberCount, joins, spread, spreads, root, joined, 
 use Rattle.cuts.proofs.FlagLaws.{clash, neither}
 use Rattle.cuts.proofs.SumLaws.{anyTo-at, sum-congr, count-cut, table-length, table-at}
 use Rattle.sheet.specs.Bytes.{Bytes, mapBit}
-use Rattle.sheet.specs.Reading.{accepted, check, firstFailing, records}
+use Rattle.sheet.specs.Reading.{Check, accepted, check, firstFailing, records}
 use Rattle.sheet.specs.Sheet.{Format, Accepted, nodesIn, linksIn, treesIn, headerChecks, linkIn, linkChecks, linkRecord, nextLink, mapLength, treeIn, treeChecks, treeRecord, network, decode}
 use Rattle.sheet.proofs.ReadingLaws.{passed, unless-accepted, andThen-accepted, All, records-all}
 
@@ -35,10 +35,9 @@ counted sheet h =
     let n : ℕ = nodesIn sheet in
     let m : ℕ = linksIn sheet in
     let t : ℕ = treesIn sheet in
-    let p = passed (headerChecks sheet) refl h in
-    let a = neither (ltb n 2) (ltb 256 n) (p .1 .0) in
-    let b = neither (ltb m (n - 1)) (ltb 2048 m) (p .1 .1 .0) in
-    let c = neither (eqb t 0) (ltb 32 t) (p .1 .1 .1 .0) in
+    let a = neither (ltb n 2) (ltb 256 n) (passed 4 (headerChecks sheet) refl h) in
+    let b = neither (ltb m (n - 1)) (ltb 2048 m) (passed 5 (headerChecks sheet) refl h) in
+    let c = neither (eqb t 0) (ltb 32 t) (passed 6 (headerChecks sheet) refl h) in
     record {
       nodes-least = ltb-false n 2 (a .0);
       nodes-most = ltb-false 256 n (a .1);
@@ -65,16 +64,16 @@ unfolding linkRecord linkChecks
 good-link f nodes got bs l rest e =
     let before : Link = getD got (length got - 1) noLink in
     let k : Link = linkIn f before bs in
-    let r = unless-accepted (firstFailing (linkChecks f nodes (eqb (length got) 0) before bs)) _ e in
-    let p = passed (linkChecks f nodes (eqb (length got) 0) before bs) refl (r .0) in
-    let a = neither (leb nodes (k .first) || leb nodes (k .second)) (eqb (k .first) (k .second)) (p .1 .1 .1 .0) in
+    let cs : List Check = linkChecks f nodes (eqb (length got) 0) before bs in
+    let r = unless-accepted (firstFailing cs) _ e in
+    let a = neither (leb nodes (k .first) || leb nodes (k .second)) (eqb (k .first) (k .second)) (passed 10 cs refl (r .0)) in
     let b = neither (leb nodes (k .first)) (leb nodes (k .second)) (a .0) in
     let q : k ≡ l = cc in
     subst (GoodLink f nodes) q (record {
       first-in = leb-false nodes (k .first) (b .0);
       second-in = leb-false nodes (k .second) (b .1);
       differ = eqb-false (k .first) (k .second) (a .1);
-      light = ltb-false (f .weightLimit) (k .weight) (p .1 .1 .1 .1 .0);
+      light = ltb-false (f .weightLimit) (k .weight) (passed 11 cs refl (r .0));
     })
 
 -- ---- trees
@@ -104,12 +103,11 @@ good-tree : (net : Network) (got : List Tree) (bs : Bytes) (t : Tree) (rest : By
 unfolding treeRecord treeChecks
 good-tree net got bs t rest e =
     let r = unless-accepted (firstFailing (treeChecks net bs)) _ e in
-    let p = passed (treeChecks net bs) refl (r .0) in
     let q : treeIn net bs ≡ t = cc in
     subst (GoodTree net) q (record {
       sized = members-sized net bs;
-      counted = members-counted net bs (p .1 .0) ∙ eqb-true _ _ (not-false _ (p .1 .1 .0));
-      spanning = not-false _ (p .1 .1 .1 .0);
+      counted = members-counted net bs (passed 13 (treeChecks net bs) refl (r .0)) ∙ eqb-true _ _ (not-false _ (passed 14 (treeChecks net bs) refl (r .0)));
+      spanning = not-false _ (passed 15 (treeChecks net bs) refl (r .0));
     })
 
 -- which trees are listed does not matter to what links join

@@ -13,23 +13,29 @@ use Rattle.cuts.proofs.SumLaws.{all-suc}
 use Rattle.sheet.specs.Bytes.{Bytes}
 use Rattle.sheet.specs.Reading.{Check, firstFailing, Reading, accepted, refused, unless, andThen, records}
 
--- every check passes, and every check has a number that is not 0
-abbrev pub Passed : List Check → Type 0
-Passed [] = Unit {0}
-Passed (c ∷ cs) = (c .fails ≡ false) × Passed cs
+-- what the check with the number n says: it fails
+abbrev pub failing : ℕ → List Check → Bool
+failing n [] = false
+failing n (c ∷ cs) = cond (eqb (c .refusal) n) (c .fails) (failing n cs)
 
+-- every check has a number that is not 0
 abbrev pub numbered : List Check → Bool
 numbered [] = true
 numbered (c ∷ cs) = ltb 0 (c .refusal) && numbered cs
 
-pub passed : (cs : List Check) → numbered cs ≡ true → firstFailing cs ≡ 0 → Passed cs
+pub passed : (n : ℕ) (cs : List Check) → numbered cs ≡ true → firstFailing cs ≡ 0 → failing n cs ≡ false
 unfolding firstFailing
-passed [] m h = tt
-passed (c ∷ cs) m h = step (c .fails) refl h (passed cs)
+passed n [] m h = refl
+passed n (c ∷ cs) m h = step (c .fails) refl (eqb (c .refusal) n) h (passed n cs)
   where
-    step : (b : Bool) → c .fails ≡ b → cond b (c .refusal) (firstFailing cs) ≡ 0 → (numbered cs ≡ true → firstFailing cs ≡ 0 → Passed cs) → (c .fails ≡ false) × Passed cs
-    step false e h r = (e, r (and-eq-true-iff (ltb 0 (c .refusal)) (numbered cs) .0 m .1) h)
-    step true e h r = let l = ltb-true 0 (c .refusal) (and-eq-true-iff (ltb 0 (c .refusal)) (numbered cs) .0 m .0) in absurd (omega arith)
+    positive : (ltb 0 (c .refusal) ≡ true) × (numbered cs ≡ true)
+    positive = and-eq-true-iff (ltb 0 (c .refusal)) (numbered cs) .0 m
+
+    step : (b : Bool) → c .fails ≡ b → (q : Bool) → cond b (c .refusal) (firstFailing cs) ≡ 0 → (numbered cs ≡ true → firstFailing cs ≡ 0 → failing n cs ≡ false)
+        → cond q (c .fails) (failing n cs) ≡ false
+    step true e q h r = let l = ltb-true 0 (c .refusal) (positive .0) in absurd (omega arith)
+    step false e true h r = e
+    step false e false h r = r (positive .1) h
 
 not-refused : {A B : Type 0} {n : ℕ} {x : A} {rest : Bytes} → refused n ≡ accepted x rest → B
 not-refused p = let z : _≡_ {A = ℕ} 0 1 = cc in absurd (omega arith)
