@@ -9,7 +9,7 @@ use lib.Dec.{eqb}
 use borrow.Author.Tests.{eqb-true, eq-eqb}
 use Rattle.cuts.specs.Sums.{sumTo, only, countTo}
 use Rattle.cuts.specs.Network.{Tree, Network, flag, linkCount}
-use Rattle.cuts.specs.Cut.{Side, Rootless, crosses, cutWeight, crossings}
+use Rattle.cuts.specs.Cut.{Side, Respects, Rootless, crosses, cutWeight, crossings}
 use Rattle.cuts.specs.Tree.{below, Spanning, Member}
 use Rattle.cuts.specs.Candidate.{Handle, one, two, sideOf, Fits, names}
 use Rattle.cuts.specs.Demands.{Belongs}
@@ -23,6 +23,10 @@ abbrev pub named : Handle → ℕ
 named (one e) = 1
 named (two e f) = 2
 
+-- of a pair no link is both
+apart : {e f : ℕ} → e < f → (k : ℕ) → eqb e k ≡ true → eqb f k ≡ true → ⊥
+apart {e} {f} l k p q = let u = eqb-true e k p in let v = eqb-true f k q in omega arith
+
 module _ {net : Network} {t : Tree} (g : Spanning net t) where
   pub sideOf-rootless : (h : Handle) → Fits net t h → Rootless net (sideOf net t h)
   unfolding sideOf
@@ -35,7 +39,7 @@ module _ {net : Network} {t : Tree} (g : Spanning net t) where
   sideOf-crosses (one e) m k n = below-crosses g e m k n
   sideOf-crosses (two e f) m k n =
       crosses-symDiff net (below net t e) (below net t f) k ∙ ap₂ xor (below-crosses g e (m .1) k n) (below-crosses g f (m .2) k n)
-      ∙ not-both (eqb e k) (eqb f k) (λ p q. let u = eqb-true e k p in let v = eqb-true f k q in let w = m .0 in omega arith)
+      ∙ not-both (eqb e k) (eqb f k) (apart (m .0) k)
     where
       not-both : (a b : Bool) → (a ≡ true → b ≡ true → ⊥) → xor a b ≡ (a || b)
       not-both true true h = absurd (h refl refl)
@@ -59,7 +63,6 @@ module _ {net : Network} {t : Tree} (g : Spanning net t) where
       step k b false e = refl
 
   pub sideOf-crossings : (h : Handle) → Fits net t h → crossings net t (sideOf net t h) ≡ named h
-  unfolding xor
   sideOf-crossings (one e) m = crossings-names (one e) m ∙ sum-congr (linkCount net) _ _ (λ k b. swap (flag (t .members) k) (eqb e k)) ∙ at-name e m
     where
       swap : (a c : Bool) → only (a && c) 1 ≡ only c (only a 1)
@@ -69,7 +72,7 @@ module _ {net : Network} {t : Tree} (g : Spanning net t) where
   sideOf-crossings (two e f) m =
       let a = crossings-names (two e f) m in
       let b = sum-congr (linkCount net) (λ k. only (flag (t .members) k && (eqb e k || eqb f k)) 1) (λ k. only (eqb e k) (only (flag (t .members) k) 1) + only (eqb f k) (only (flag (t .members) k) 1))
-      (λ k _. split (flag (t .members) k) (eqb e k) (eqb f k) (λ p q. let u = eqb-true e k p in let v = eqb-true f k q in let w = m .0 in omega arith)) in
+      (λ k _. split (flag (t .members) k) (eqb e k) (eqb f k) (apart (m .0) k)) in
       let c = sum-add (linkCount net) (λ k. only (eqb e k) (only (flag (t .members) k) 1)) (λ k. only (eqb f k) (only (flag (t .members) k) 1)) in
       let d = at-name e (m .1) in
       let d′ = at-name f (m .2) in
@@ -112,54 +115,43 @@ module _ {net : Network} {t : Tree} (g : Spanning net t) where
     unfolding crossed
     crossed-member k b h = record { is-link = b; is-set = and-eq-true-iff _ _ .0 h .0 }
 
-    -- a side that crosses what the handle names is the handle's
-    names-side : (h : Handle) → Fits net t h → ((k : ℕ) → k < linkCount net → crossed k ≡ names h k) → s ≡ sideOf net t h
-    unfolding crossed
-    names-side h m e = same-side g s (sideOf net t h) r (sideOf-rootless h m) (λ k n. sym (counts s k n) ∙ e k (n .is-link) ∙ sym (sideOf-crosses h m k n))
-
     pub crossings-none : crossings net t s ≡ 0 → (x : ℕ) → x < net .nodes → flag s x ≡ false
     unfolding crossings
     crossings-none h = crosses-none g s (r .without) (λ k m. sym (counts s k m) ∙ count-none (linkCount net) (λ j. flag (t .members) j && crosses net s j) h k (m .is-link))
 
-    crossings-one : crossings net t s ≡ 1 → (h : Handle) × Fits net t h × (s ≡ sideOf net t h)
-    unfolding crossings crossed
-    crossings-one h = from (count-one (linkCount net) crossed h)
-      where
-        from : One (linkCount net) crossed → (h : Handle) × Fits net t h × (s ≡ sideOf net t h)
-        from o =
-            let m = crossed-member (o .at) (o .under) (o .is (o .at) (o .under) ∙ eq-eqb (o .at) (o .at) refl) in
-            (one (o .at), m, names-side (one (o .at)) m (o .is))
-
-    crossings-two : crossings net t s ≡ 2 → (h : Handle) × Fits net t h × (s ≡ sideOf net t h)
-    unfolding crossings crossed
-    crossings-two h = from (count-two (linkCount net) crossed h)
-      where
-        from : Two (linkCount net) crossed → (h : Handle) × Fits net t h × (s ≡ sideOf net t h)
-        from o =
-            let l : o .low < o .high = o .apart in
-            let u : o .high < linkCount net = o .under in
-            let m : Fits net t (two (o .low) (o .high)) = (
-              l,
-              crossed-member (o .low) (omega arith) (o .is (o .low) (omega arith) ∙ or-left _ _ (eq-eqb (o .low) (o .low) refl)),
-              crossed-member (o .high) u (o .is (o .high) u ∙ or-right (eqb (o .low) (o .high)) _ (eq-eqb (o .high) (o .high) refl)),
-            ) in
-            (two (o .low) (o .high), m, names-side (two (o .low) (o .high)) m (o .is))
-
-    -- a side that crosses one or two members belongs to one handle and no other
-    pub belongs : 1 ≤ crossings net t s → crossings net t s ≤ 2 → Belongs net t s
-    belongs a b = go (crossings net t s) refl a b
-      where
-        of : (h : Handle) × Fits net t h × (s ≡ sideOf net t h) → Belongs net t s
-        of o = record {
-          handle = o .0;
-          fits = o .1;
-          stands = o .2;
-          no-other = λ h m q. sideOf-inj h (o .0) m (o .1) (sym q ∙ o .2);
-          weighs = ap (cutWeight net) (o .2) ∙ sym (weightOf-is net t (o .0));
+    -- a side that crosses what the handle names belongs to the handle and to no other
+    names-side : (h : Handle) → Fits net t h → ((k : ℕ) → k < linkCount net → crossed k ≡ names h k) → Belongs net t s
+    unfolding crossed
+    names-side h m e =
+        let q : s ≡ sideOf net t h = same-side g s (sideOf net t h) r (sideOf-rootless h m) (λ k n. sym (counts s k n) ∙ e k (n .is-link) ∙ sym (sideOf-crosses h m k n)) in
+        record {
+          handle = h;
+          fits = m;
+          stands = q;
+          no-other = λ h′ m′ q′. sideOf-inj h′ h m′ m (sym q′ ∙ q);
+          weighs = ap (cutWeight net) q ∙ sym (weightOf-is net t h);
         }
 
+    belongs-one : One (linkCount net) crossed → Belongs net t s
+    belongs-one o = names-side (one (o .at)) (crossed-member (o .at) (o .under) (o .is (o .at) (o .under) ∙ eq-eqb (o .at) (o .at) refl)) (o .is)
+
+    belongs-two : Two (linkCount net) crossed → Belongs net t s
+    belongs-two o =
+        let l : o .low < o .high = o .apart in
+        let u : o .high < linkCount net = o .under in
+        names-side (two (o .low) (o .high)) (
+          l,
+          crossed-member (o .low) (omega arith) (o .is (o .low) (omega arith) ∙ or-left _ _ (eq-eqb (o .low) (o .low) refl)),
+          crossed-member (o .high) u (o .is (o .high) u ∙ or-right (eqb (o .low) (o .high)) _ (eq-eqb (o .high) (o .high) refl)),
+        ) (o .is)
+
+    -- a side that crosses one or two members belongs to one handle and no other
+    pub belongs : 1 ≤ crossings net t s → Respects net t s → Belongs net t s
+    unfolding crossings crossed
+    belongs a b = go (crossings net t s) refl a b
+      where
         go : (n : ℕ) → crossings net t s ≡ n → 1 ≤ n → n ≤ 2 → Belongs net t s
         go zero e a b = absurd (omega arith)
-        go (suc zero) e a b = of (crossings-one e)
-        go (suc (suc zero)) e a b = of (crossings-two e)
+        go (suc zero) e a b = belongs-one (count-one (linkCount net) crossed e)
+        go (suc (suc zero)) e a b = belongs-two (count-two (linkCount net) crossed e)
         go (suc (suc (suc n))) e a b = absurd (omega arith)

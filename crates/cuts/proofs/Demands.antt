@@ -169,9 +169,9 @@ module _ (net : Network) (v : Sound net) where
 
   -- ---- demand 2
 
-  pub candidate-agrees : (c : Candidate) (a : Answer) → List·Memᴰ c (candidates net) → a .best ≡ c → a .count ≡ size net (a .best .side) → Demand2 net a
+  pub candidate-agrees : (a : Answer) → List·Memᴰ (a .best) (candidates net) → a .count ≡ size net (a .best .side) → Demand2 net a
   unfolding candidate
-  candidate-agrees c a m e n = from (subst (Genuine net) (sym e) (candidate-of net c m))
+  candidate-agrees a m n = from (candidate-of net (a .best) m)
     where
       most : (h : Handle) → named h ≤ 2
       most (one e) = omega arith
@@ -282,7 +282,7 @@ module _ (net : Network) (v : Sound net) where
 
   pub answer-demand2 : Demand2 net (answer net)
   unfolding chosen answer judged
-  answer-demand2 = candidate-agrees chosen (answer net) (first-in chosen-first) refl refl
+  answer-demand2 = candidate-agrees (answer net) (first-in chosen-first) refl
 
   pub answer-demand3 : Demand3 net (answer net)
   unfolding chosen answer judged
