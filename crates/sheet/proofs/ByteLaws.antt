@@ -43,12 +43,13 @@ fields-fieldBytes (w ∷ ws) (v ∷ vs) rest h =
 
 -- ---- flags
 
--- the bits of the byte of eight flags, by its table
-eight : (a b c d e f g h : Bool) → allTo 8 (λ r. Bool·beq (bit (byteOf (flag (a ∷ b ∷ c ∷ d ∷ e ∷ f ∷ g ∷ h ∷ []))) r) (flag (a ∷ b ∷ c ∷ d ∷ e ∷ f ∷ g ∷ h ∷ []) r)) ≡ true
+-- each bit of the byte of eight flags is its flag
+abbrev readsBack : List Bool → Bool
+readsBack fs = allTo 8 (λ r. Bool·beq (bit (byteOf (flag fs)) r) (flag fs r))
+
+eight : (a b c d e f g h : Bool) → readsBack (a ∷ b ∷ c ∷ d ∷ e ∷ f ∷ g ∷ h ∷ []) ≡ true
 unfolding allTo byteOf
-eight =
-    one-table 8 (λ a b c d e f g h. allTo 8 (λ r. Bool·beq (bit (byteOf (flag (a ∷ b ∷ c ∷ d ∷ e ∷ f ∷ g ∷ h ∷ []))) r) (flag (a ∷ b ∷ c ∷ d ∷ e ∷ f ∷ g ∷ h ∷ []) r)))
-    (λ a b c d e f g h. true) refl
+eight = one-table 8 (λ a b c d e f g h. readsBack (a ∷ b ∷ c ∷ d ∷ e ∷ f ∷ g ∷ h ∷ [])) (λ a b c d e f g h. true) refl
 
 pub bit-byteOf : (f : ℕ → Bool) (r : ℕ) → r < 8 → bit (byteOf f) r ≡ f r
 unfolding byteOf table

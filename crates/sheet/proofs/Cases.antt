@@ -18,7 +18,7 @@ use Rattle.cuts.specs.Sums.{select}
 use Rattle.cuts.specs.Network.{Network, flag}
 use Rattle.cuts.specs.Answer.{Answer, answer}
 use Rattle.sheet.specs.Bytes.{Bytes}
-use Rattle.sheet.specs.Reading.{Reading, accepted, refused, numberOf}
+use Rattle.sheet.specs.Reading.{accepted, refused, numberOf}
 use Rattle.sheet.specs.Sheet.{base, decode}
 use Rattle.sheet.specs.Areas.{sideBytes, reportBytes, sideAfter, reportAfter, answerRead, firstLink, secondLink}
 
@@ -116,13 +116,10 @@ caseOf bs net a =
     ∷ a .count ∷ [])
     (select (net .nodes) (flag (a .best .side)))
 
-abbrev caseRead : Bytes → Reading Network → Case
-caseRead bs (accepted net rest) = caseOf bs net (answerRead (net .nodes) (sideAfter net []) (reportAfter net []))
-caseRead bs (refused n) = gives bs (n ∷ []) []
-
 reported : Bytes → Case
 unfolding decode answer answerRead sideBytes reportBytes select
-reported bs = caseRead bs (decode base bs)
+reported bs =
+    elim (decode base bs) [ accepted net rest ↦ caseOf bs net (answerRead (net .nodes) (sideAfter net []) (reportAfter net [])) | refused n ↦ gives bs (n ∷ []) [] ]
 
 starred-reported : map (λ c. reported (c .sheet)) starred ≡ starred
 unfolding starred reported
@@ -149,13 +146,9 @@ layouts =
     ∷ lays (ladder ++ tree 1 7) (14 ∷ replicate 31 0) (1 ∷ 0 ∷ 3 ∷ 0 ∷ 0 ∷ 0 ∷ 255 ∷ 255 ∷ 11 ∷ 0 ∷ 0 ∷ 0 ∷ 3 ∷ 0 ∷ 0 ∷ 0 ∷ [])
     ∷ []
 
-abbrev layoutRead : Bytes → Reading Network → Layout
-layoutRead bs (accepted net rest) = lays bs (sideAfter net []) (reportAfter net [])
-layoutRead bs (refused n) = lays bs [] []
-
 laidOut : Bytes → Layout
 unfolding decode answer sideBytes reportBytes
-laidOut bs = layoutRead bs (decode base bs)
+laidOut bs = elim (decode base bs) [ accepted net rest ↦ lays bs (sideAfter net []) (reportAfter net []) | refused n ↦ lays bs [] [] ]
 
 layouts-written : map (λ l. laidOut (l .sheet)) layouts ≡ layouts
 unfolding layouts laidOut
