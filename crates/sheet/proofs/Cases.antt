@@ -1,14 +1,14 @@
 -- Document 01's "Networks to try" and what else its words pin down, proved of the definitions together by computing four tables.
 --   Case             a sheet, the numbers of its answer line, with 65535 for `-`, and the nodes of its side line
 --   starred          the starred networks A to H, H with each of its shares
---   others           network I, inherited fields, and maps of a full byte and of two bytes
+--   others           network I, inherited fields, maps of a full byte and of two, and the largest numbers
 --   reported bs      the sheet bs and what both areas hold after it, read back from their bytes
 --   Layout           a sheet and the bytes of both areas
---   layouts          the bytes of both areas for A, E and F
---   laidOut bs       the sheet bs and the bytes of both areas
---   Refusal          a sheet and the number that refuses it
---   refusals         sheets with one fault, then sheets with two, of which the first in document 01's list counts
---   refusalOf bs     the sheet bs and the number that refuses it
+--   layouts          the bytes of both areas for A, E and F, in areas of 33 and 18 bytes that were full of nines
+--   laidOut bs       the sheet bs and the bytes of such areas after it
+--   Numbered         a sheet and its return number
+--   numbers          0 for an accepted sheet; sheets with one fault, then sheets with two, of which the first in the list counts
+--   numbered bs      the sheet bs and its return number
 -- Assumes nothing.
 use Prim.Native.Nat.{ℕ}
 use mathlib.Core.Path.{_≡_, refl}
@@ -105,6 +105,8 @@ others =
     -- eight links with link 7 in the tree, and nine with link 8
     ∷ gives (parallel 8 (replicate 7 0) ++ tree 0 128) (1 ∷ 8 ∷ 0 ∷ 0 ∷ 7 ∷ 65535 ∷ 1 ∷ []) (1 ∷ [])
     ∷ gives (parallel 9 (replicate 8 0) ++ tree 0 0 ++ 1 ∷ []) (1 ∷ 9 ∷ 0 ∷ 0 ∷ 8 ∷ 65535 ∷ 1 ∷ []) (1 ∷ [])
+    -- a share of 16,777,217, more than the link carries
+    ∷ gives (bridge 4 ++ 1 ∷ 0 ∷ 0 ∷ 1 ∷ 1 ∷ []) (1 ∷ 4 ∷ 0 ∷ 0 ∷ 0 ∷ 65535 ∷ 1 ∷ []) (1 ∷ [])
     -- weight 1,000,000
     ∷ gives (header 2 1 1 ++ 7 ∷ 0 ∷ 0 ∷ 1 ∷ 0 ∷ 64 ∷ 66 ∷ 15 ∷ 0 ∷ tree 0 1) (1 ∷ 1000000 ∷ 0 ∷ 0 ∷ 0 ∷ 65535 ∷ 1 ∷ []) (1 ∷ [])
     ∷ []
@@ -141,83 +143,84 @@ lays bs side report = record { sheet = bs; side = side; report = report }
 
 layouts : List Layout
 layouts =
-    lays (triangle ++ tree 2 5) (2 ∷ replicate 31 0) (2 ∷ 0 ∷ 1 ∷ 0 ∷ 0 ∷ 0 ∷ 255 ∷ 255 ∷ 5 ∷ 0 ∷ 0 ∷ 0 ∷ 5 ∷ 0 ∷ 0 ∷ 0 ∷ [])
-    ∷ lays (thickRing ++ tree 1 3) (2 ∷ replicate 31 0) (2 ∷ 0 ∷ 1 ∷ 0 ∷ 0 ∷ 0 ∷ 1 ∷ 0 ∷ 2 ∷ 0 ∷ 0 ∷ 0 ∷ 2 ∷ 0 ∷ 0 ∷ 0 ∷ [])
-    ∷ lays (ladder ++ tree 1 7) (14 ∷ replicate 31 0) (1 ∷ 0 ∷ 3 ∷ 0 ∷ 0 ∷ 0 ∷ 255 ∷ 255 ∷ 11 ∷ 0 ∷ 0 ∷ 0 ∷ 3 ∷ 0 ∷ 0 ∷ 0 ∷ [])
+    lays (triangle ++ tree 2 5) (2 ∷ replicate 31 0 ++ 9 ∷ []) (2 ∷ 0 ∷ 1 ∷ 0 ∷ 0 ∷ 0 ∷ 255 ∷ 255 ∷ 5 ∷ 0 ∷ 0 ∷ 0 ∷ 5 ∷ 0 ∷ 0 ∷ 0 ∷ 9 ∷ 9 ∷ [])
+    ∷ lays (thickRing ++ tree 1 3) (2 ∷ replicate 31 0 ++ 9 ∷ []) (2 ∷ 0 ∷ 1 ∷ 0 ∷ 0 ∷ 0 ∷ 1 ∷ 0 ∷ 2 ∷ 0 ∷ 0 ∷ 0 ∷ 2 ∷ 0 ∷ 0 ∷ 0 ∷ 9 ∷ 9 ∷ [])
+    ∷ lays (ladder ++ tree 1 7) (14 ∷ replicate 31 0 ++ 9 ∷ []) (1 ∷ 0 ∷ 3 ∷ 0 ∷ 0 ∷ 0 ∷ 255 ∷ 255 ∷ 11 ∷ 0 ∷ 0 ∷ 0 ∷ 3 ∷ 0 ∷ 0 ∷ 0 ∷ 9 ∷ 9 ∷ [])
     ∷ []
 
 laidOut : Bytes → Layout
 unfolding decode answer sideBytes reportBytes
-laidOut bs = elim (decode base bs) [ accepted net rest ↦ lays bs (sideAfter net []) (reportAfter net []) | refused n ↦ lays bs [] [] ]
+laidOut bs = elim (decode base bs) [ accepted net rest ↦ lays bs (sideAfter net (replicate 33 9)) (reportAfter net (replicate 18 9)) | refused n ↦ lays bs [] [] ]
 
 layouts-written : map (λ l. laidOut (l .sheet)) layouts ≡ layouts
 unfolding layouts laidOut
 layouts-written = refl
 
--- ---- refused
+-- ---- return numbers
 
-record Refusal : Type 0 where
+record Numbered : Type 0 where
   sheet : Bytes
   number : ℕ
 
-abbrev refuses : ℕ → Bytes → Refusal
-refuses n bs = record { sheet = bs; number = n }
+abbrev returns : ℕ → Bytes → Numbered
+returns n bs = record { sheet = bs; number = n }
 
 -- a link of weight 1,000,001 between x and y
 abbrev heavy : ℕ → ℕ → Bytes
 heavy x y = 7 ∷ x ∷ 0 ∷ y ∷ 0 ∷ 65 ∷ 66 ∷ 15 ∷ 0 ∷ []
 
-refusals : List Refusal
-refusals =
-    refuses 3 (2 ∷ 0 ∷ 1 ∷ 0 ∷ [])
+numbers : List Numbered
+numbers =
+    returns 0 (triangle ++ tree 2 5)
+    ∷ returns 3 (2 ∷ 0 ∷ 1 ∷ 0 ∷ [])
     -- 1 and 257 nodes
-    ∷ refuses 4 (header 1 1 1 ++ link 0 1 4 ++ tree 1 1)
-    ∷ refuses 4 (1 ∷ 1 ∷ 1 ∷ 0 ∷ 1 ∷ [])
+    ∷ returns 4 (header 1 1 1 ++ link 0 1 4 ++ tree 1 1)
+    ∷ returns 4 (1 ∷ 1 ∷ 1 ∷ 0 ∷ 1 ∷ [])
     -- three nodes with 1 link, and 2,049 links
-    ∷ refuses 5 (header 3 1 1 ++ link 0 1 4 ++ tree 1 1)
-    ∷ refuses 5 (2 ∷ 0 ∷ 1 ∷ 8 ∷ 1 ∷ [])
+    ∷ returns 5 (header 3 1 1 ++ link 0 1 4 ++ tree 1 1)
+    ∷ returns 5 (2 ∷ 0 ∷ 1 ∷ 8 ∷ 1 ∷ [])
     -- 0 and 33 trees
-    ∷ refuses 6 (header 2 1 0 ++ link 0 1 4)
-    ∷ refuses 6 (header 2 1 33 ++ link 0 1 4 ++ tree 1 1)
-    ∷ refuses 7 (header 2 1 1)
+    ∷ returns 6 (header 2 1 0 ++ link 0 1 4)
+    ∷ returns 6 (header 2 1 33 ++ link 0 1 4 ++ tree 1 1)
+    ∷ returns 7 (header 2 1 1)
     -- link 0 without its weight, and a map byte of 8
-    ∷ refuses 8 (header 2 1 1 ++ 3 ∷ 0 ∷ 0 ∷ 1 ∷ 0 ∷ [])
-    ∷ refuses 8 (header 2 2 1 ++ link 0 1 4 ++ 8 ∷ [])
-    ∷ refuses 9 (header 2 1 1 ++ 7 ∷ 0 ∷ 0 ∷ 1 ∷ 0 ∷ 4 ∷ 0 ∷ 0 ∷ [])
+    ∷ returns 8 (header 2 1 1 ++ 3 ∷ 0 ∷ 0 ∷ 1 ∷ 0 ∷ [])
+    ∷ returns 8 (header 2 2 1 ++ link 0 1 4 ++ 8 ∷ [])
+    ∷ returns 9 (header 2 1 1 ++ 7 ∷ 0 ∷ 0 ∷ 1 ∷ 0 ∷ 4 ∷ 0 ∷ 0 ∷ [])
     -- an end outside, and both ends equal
-    ∷ refuses 10 (header 2 1 1 ++ link 0 2 4 ++ tree 1 1)
-    ∷ refuses 10 (header 2 1 1 ++ link 1 1 4 ++ tree 1 1)
-    ∷ refuses 11 (header 2 1 1 ++ heavy 0 1 ++ tree 1 1)
-    ∷ refuses 12 (bridge 4 ++ 1 ∷ 0 ∷ 0 ∷ 0 ∷ [])
+    ∷ returns 10 (header 2 1 1 ++ link 0 2 4 ++ tree 1 1)
+    ∷ returns 10 (header 2 1 1 ++ link 1 1 4 ++ tree 1 1)
+    ∷ returns 11 (header 2 1 1 ++ heavy 0 1 ++ tree 1 1)
+    ∷ returns 12 (bridge 4 ++ 1 ∷ 0 ∷ 0 ∷ 0 ∷ [])
     -- a bit past the link count; all four links in the tree
-    ∷ refuses 13 (triangle ++ tree 2 9)
-    ∷ refuses 14 (ring 1 ++ tree 1 15)
+    ∷ returns 13 (triangle ++ tree 2 9)
+    ∷ returns 14 (ring 1 ++ tree 1 15)
     -- three links in the tree, two of them parallel
-    ∷ refuses 15 (split 1 ++ tree 1 7)
-    ∷ refuses 16 (triangle ++ tree 2 5 ++ 0 ∷ [])
+    ∷ returns 15 (split 1 ++ tree 1 7)
+    ∷ returns 16 (triangle ++ tree 2 5 ++ 0 ∷ [])
     -- two faults in the header
-    ∷ refuses 4 (header 1 0 0)
-    ∷ refuses 5 (header 3 1 0)
-    ∷ refuses 6 (header 2 1 0)
+    ∷ returns 4 (header 1 0 0)
+    ∷ returns 5 (header 3 1 0)
+    ∷ returns 6 (header 2 1 0)
     -- in a link: 8 and 9, 9 and 10, 10 and 11
-    ∷ refuses 8 (header 2 1 1 ++ 255 ∷ [])
-    ∷ refuses 9 (header 2 1 1 ++ 7 ∷ 1 ∷ 0 ∷ 1 ∷ 0 ∷ 4 ∷ [])
-    ∷ refuses 10 (header 2 1 1 ++ heavy 1 1)
+    ∷ returns 8 (header 2 1 1 ++ 255 ∷ [])
+    ∷ returns 9 (header 2 1 1 ++ 7 ∷ 1 ∷ 0 ∷ 1 ∷ 0 ∷ 4 ∷ [])
+    ∷ returns 10 (header 2 1 1 ++ heavy 1 1)
     -- in two links, and in a link and a tree
-    ∷ refuses 11 (header 2 2 1 ++ heavy 0 1 ++ 8 ∷ [])
-    ∷ refuses 10 (header 2 1 1 ++ link 0 2 4 ++ tree 1 3)
+    ∷ returns 11 (header 2 2 1 ++ heavy 0 1 ++ 8 ∷ [])
+    ∷ returns 10 (header 2 1 1 ++ link 0 2 4 ++ tree 1 3)
     -- in a tree: 13 and 14, 14 and 15
-    ∷ refuses 13 (triangle ++ tree 2 13)
-    ∷ refuses 14 (ring 1 ++ tree 1 1)
+    ∷ returns 13 (triangle ++ tree 2 13)
+    ∷ returns 14 (ring 1 ++ tree 1 1)
     -- in two trees, and behind the last
-    ∷ refuses 15 (split 2 ++ tree 1 7)
-    ∷ refuses 15 (split 1 ++ tree 1 7 ++ 0 ∷ [])
+    ∷ returns 15 (split 2 ++ tree 1 7)
+    ∷ returns 15 (split 1 ++ tree 1 7 ++ 0 ∷ [])
     ∷ []
 
-refusalOf : Bytes → Refusal
+numbered : Bytes → Numbered
 unfolding decode
-refusalOf bs = refuses (numberOf (decode base bs)) bs
+numbered bs = returns (numberOf (decode base bs)) bs
 
-refusals-given : map (λ r. refusalOf (r .sheet)) refusals ≡ refusals
-unfolding refusals refusalOf
-refusals-given = refl
+numbers-returned : map (λ r. numbered (r .sheet)) numbers ≡ numbers
+unfolding numbers numbered
+numbers-returned = refl
