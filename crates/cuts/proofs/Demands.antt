@@ -21,7 +21,7 @@ use Rattle.cuts.specs.Bound.{load, shares, overloaded, floor}
 use Rattle.cuts.specs.Answer.{Answer, certified, treesOnly, verdictOf, judged, answer}
 use Rattle.cuts.specs.Demands.{Demand2, Demand3, Owed}
 use Rattle.cuts.proofs.FlagLaws.{clash, truth}
-use Rattle.cuts.proofs.SumLaws.{anyTo-some, anyTo-at, sum-congr, sum-add, sum-const, sum-entry, count-none, Last, count-last}
+use Rattle.cuts.proofs.SumLaws.{anyTo-some, anyTo-at, sum-congr, sum-add, sum-const, count-lacks, count-none, Last, count-last}
 use Rattle.cuts.proofs.ListLaws.{mem-at, each-split}
 use Rattle.cuts.proofs.CutLaws.{crosses-is, flag-not, cutWeight-not, crossings-not, weightOf-is}
 use Rattle.cuts.proofs.Crossings.{named, sideOf-rootless, sideOf-crosses, sideOf-crossings, crossings-none, belongs}
@@ -46,14 +46,6 @@ size-not net s e =
     one-of : (c : Bool) → only (not c) 1 + only c 1 ≡ 1
     one-of true = refl
     one-of false = refl
-
-size-lacks : (net : Network) (s : Side) (x : ℕ) → length s ≡ net .nodes → x < net .nodes → flag s x ≡ false → size net s < net .nodes
-unfolding size
-size-lacks net s x e b f =
-    let n = size-not net s e in
-    let a = sum-entry (net .nodes) (λ y. only (flag (map not s) y) 1) x b in
-    let c : only (flag (map not s) x) 1 ≡ 1 = rw (flag-not s x (rw e b), f) in
-    omega arith
 
 crossings-empty : (net : Network) → Linked net → (t : Tree) (s : Side) → ((x : ℕ) → x < net .nodes → flag s x ≡ false) → crossings net t s ≡ 0
 unfolding crossings xor
@@ -105,7 +97,7 @@ crossings-some {net} {t} g s p r = go (crossings net t s) refl
 handle-proper : {net : Network} {t : Tree} → Spanning net t → (h : Handle) → Fits net t h → Proper net (sideOf net t h)
 handle-proper {net} {t} g h f =
     let r = sideOf-rootless g h f in
-    record { sized = r .sized; not-empty = some (size net (sideOf net t h)) refl; not-full = size-lacks net (sideOf net t h) 0 (r .sized) (g .linked .rooted) (r .without) }
+    record { sized = r .sized; not-empty = some (size net (sideOf net t h)) refl; not-full = unfold size in count-lacks (net .nodes) (flag (sideOf net t h)) 0 (g .linked .rooted) (r .without) }
   where
     names-some : (h : Handle) → 0 < named h
     names-some (one e) = omega arith

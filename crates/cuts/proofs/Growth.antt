@@ -16,7 +16,7 @@ use Rattle.cuts.specs.Cut.{Side, size}
 use Rattle.cuts.specs.Tree.{root, spread, memberCount, Spanning, Member}
 use Rattle.cuts.specs.Paths.{Distinct, Meets, forth, back}
 use Rattle.cuts.proofs.FlagLaws.{clash, agree, truth, eqb-comm}
-use Rattle.cuts.proofs.SumLaws.{anyTo-some, anyTo-at, sum-congr, sum-add, sum-const, sum-single, sum-tight, table-length, table-at}
+use Rattle.cuts.proofs.SumLaws.{anyTo-some, anyTo-at, sum-congr, sum-add, sum-const, sum-single, sum-tight, count-more, table-length, table-at}
 use Rattle.cuts.proofs.Joined.{Lead, held, meets-in, spread-lead, spread-from, size-most, root-size}
 use Rattle.cuts.proofs.Spanning.{closed-all}
 use Rattle.cuts.proofs.Walks.{odd, odd-absent, odd-of}
@@ -43,14 +43,7 @@ module _ (net : Network) (l : Linked net) (chosen : List Bool) where
   size-set : (s : Side) (x : ℕ) → length s ≡ net .nodes → x < net .nodes → flag s x ≡ false → size net (set s x true) ≡ suc (size net s)
   unfolding size
   size-set s x e b f =
-      let a = sum-congr (net .nodes) (λ y. only (flag (set s x true) y) 1) (λ y. only (flag s y) 1 + only (eqb x y) 1) (λ y _. go y (truth (eqb x y))) in
-      let c = sum-add (net .nodes) (λ y. only (flag s y) 1) (λ y. only (eqb x y) 1) in
-      let d = sum-single (net .nodes) x (λ y. 1) b in
-      omega arith
-    where
-      go : (y : ℕ) → (eqb x y ≡ true) ⊎ (eqb x y ≡ false) → only (flag (set s x true) y) 1 ≡ only (flag s y) 1 + only (eqb x y) 1
-      go y (inl q) = rw (q, ← eqb-true x y q, getD-set-same s x true false (rw e b), f)
-      go y (inr q) = rw (q, getD-set-other s x y true false (λ p. eqb-false x y q (sym p))) (omega arith)
+      count-more (net .nodes) (flag s) (flag (set s x true)) x b f (getD-set-same s x true false (rw e b)) (λ y _ n. getD-set-other s x y true false n)
 
   pub grown-size : {s : Side} {ks : List ℕ} → Grown net chosen s ks → size net s ≡ suc (length ks)
   grown-size seed = root-size net chosen l

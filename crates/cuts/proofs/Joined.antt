@@ -17,7 +17,7 @@ use Rattle.cuts.specs.Cut.{Side, crosses, size}
 use Rattle.cuts.specs.Tree.{joins, spread, spreads, root, joined}
 use Rattle.cuts.specs.Paths.{Meets, forth, back}
 use Rattle.cuts.proofs.FlagLaws.{clash, agree, either, or-left, or-right, xor-comm, eqb-comm}
-use Rattle.cuts.proofs.SumLaws.{anyTo-some, anyTo-at, sum-congr, sum-mono, sum-add, sum-const, sum-swap, sum-entry, sum-tight, sum-single, table-length, table-at}
+use Rattle.cuts.proofs.SumLaws.{anyTo-some, anyTo-at, sum-congr, sum-mono, sum-add, sum-swap, sum-entry, sum-tight, sum-single, count-most, table-length, table-at}
 
 pub turned : {net : Network} {k x y : ℕ} → Meets net k x y → Meets net k y x
 turned (forth p q) = back q p
@@ -152,11 +152,7 @@ module _ (net : Network) (chosen : List Bool) where
 
   pub size-most : (s : Side) → size net s ≤ net .nodes
   unfolding size
-  size-most s = let e = sum-const (net .nodes) 1 in let l = sum-mono (net .nodes) (λ x. only (flag s x) 1) (λ x. 1) (λ x b. unit (flag s x)) in omega arith
-    where
-      unit : (b : Bool) → only b 1 ≤ 1
-      unit true = omega arith
-      unit false = omega arith
+  size-most s = count-most (net .nodes) (flag s)
 
   pub joined-rests : spread net chosen (joined net chosen) ≡ joined net chosen
   unfolding joined

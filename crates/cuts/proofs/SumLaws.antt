@@ -11,9 +11,9 @@ use native.Mathlib.Omega.{arith}
 use lib.ListN.{length, getD, set, length-append, List·getD-append}
 use lib.Seq.{getD-at}
 use lib.Dec.{eqb, eqb·zero-suc, eqb·suc-zero, eqb·suc-suc}
-use borrow.Author.Tests.{eq-eqb, ne-eqb}
+use borrow.Author.Tests.{eqb-true, eqb-false, eq-eqb, ne-eqb}
 use Rattle.cuts.specs.Sums.{sumTo, only, anyTo, allTo, table, countTo}
-use Rattle.cuts.proofs.FlagLaws.{clash, either, or-left, or-right}
+use Rattle.cuts.proofs.FlagLaws.{clash, truth, either, or-left, or-right}
 
 -- ---- what holds below suc n
 
@@ -42,6 +42,11 @@ pub allTo-at : (n : ℕ) (f : ℕ → Bool) → allTo n f ≡ true → (k : ℕ)
 unfolding allTo
 allTo-at zero f h = λ k b. absurd (not-suc-le-zero b)
 allTo-at (suc n) f h = let p = and-eq-true-iff (allTo n f) (f n) .0 h in all-suc (λ k. f k ≡ true) n (allTo-at n f (p .0)) (p .1)
+
+pub allTo-all : (n : ℕ) (f : ℕ → Bool) → ((k : ℕ) → k < n → f k ≡ true) → allTo n f ≡ true
+unfolding allTo
+allTo-all zero f h = refl
+allTo-all (suc n) f h = rw (allTo-all n f (λ k b. h k (omega arith)), h n (omega arith))
 
 -- ---- sums
 
@@ -104,6 +109,32 @@ sum-single (suc n) a f b = step (sum-single n a f) (eq-or-lt-of-le (le-of-suc-le
     step r (inr l) = rw (ne-eqb a n (λ e. omega arith)) (let z = r l in omega arith)
 
 -- ---- counts
+
+pub count-most : (n : ℕ) (f : ℕ → Bool) → countTo n f ≤ n
+count-most n f = let e = sum-const n 1 in let l = sum-mono n (λ k. only (f k) 1) (λ k. 1) (λ k _. unit (f k)) in omega arith
+  where
+    unit : (b : Bool) → only b 1 ≤ 1
+    unit true = omega arith
+    unit false = omega arith
+
+-- where x comes to pass and nothing else changes
+pub count-more : (n : ℕ) (f g : ℕ → Bool) (x : ℕ) → x < n → f x ≡ false → g x ≡ true → ((y : ℕ) → y < n → (y ≡ x → ⊥) → g y ≡ f y)
+    → countTo n g ≡ suc (countTo n f)
+count-more n f g x b p q e =
+    let a = sum-congr n (λ y. only (g y) 1) (λ y. only (f y) 1 + only (eqb x y) 1) (λ y c. go y c (truth (eqb x y))) in
+    let c = sum-add n (λ y. only (f y) 1) (λ y. only (eqb x y) 1) in
+    let d = sum-single n x (λ y. 1) b in
+    omega arith
+  where
+    go : (y : ℕ) → y < n → (eqb x y ≡ true) ⊎ (eqb x y ≡ false) → only (g y) 1 ≡ only (f y) 1 + only (eqb x y) 1
+    go y c (inl r) = rw (r, ← eqb-true x y r, p, q)
+    go y c (inr r) = rw (r, e y c (λ z. eqb-false x y r (sym z))) (omega arith)
+
+pub count-lacks : (n : ℕ) (f : ℕ → Bool) (x : ℕ) → x < n → f x ≡ false → countTo n f < n
+count-lacks n f x b p =
+    let a = count-more n f (λ y. eqb y x || f y) x b p (rw (eq-eqb x x refl)) (λ y _ d. rw (ne-eqb y x d)) in
+    let c = count-most n (λ y. eqb y x || f y) in
+    omega arith
 
 -- the last of those counted
 pub record Last (n : ℕ) (f : ℕ → Bool) : Type 0 where
@@ -185,6 +216,17 @@ count-one n f h = from (count-last n f (omega arith))
           (λ b. l .holds ∙ sym (eq-eqb (l .at) (l .at) refl))
           (λ k b c. l .after k c b ∙ sym (ne-eqb (l .at) k (λ e. omega arith)));
     }
+
+-- where no two different numbers pass
+pub count-unique : (n : ℕ) (f : ℕ → Bool) → ((i j : ℕ) → i < n → j < n → f i ≡ true → f j ≡ true → i ≡ j) → countTo n f ≤ 1
+count-unique n f h = go (decLt 1 (countTo n f))
+  where
+    again : (l : Last n f) → Last (l .at) f → ⊥
+    again l m = let b = m .under in let c = l .under in let q = h (m .at) (l .at) (omega arith) c (m .holds) (l .holds) in omega arith
+
+    go : Dec (1 < countTo n f) → countTo n f ≤ 1
+    go (no q) = omega arith
+    go (yes b) = let l = count-last n f (omega arith) in let c = l .before in absurd (again l (count-last (l .at) f (omega arith)))
 
 pub count-two : (n : ℕ) (f : ℕ → Bool) → countTo n f ≡ 2 → Two n f
 count-two n f h = from (count-last n f (omega arith))
