@@ -84,6 +84,11 @@ handles-order (x ∷ es) u = (
 
 -- ---- selections
 
+pub select-congr : (n : ℕ) (f g : ℕ → Bool) → ((k : ℕ) → k < n → f k ≡ g k) → select n f ≡ select n g
+unfolding select
+select-congr zero f g h = refl
+select-congr (suc n) f g h = rw (select-congr n f g (λ k b. h k (omega arith)), h n (omega arith))
+
 module _ (p : ℕ → Bool) where
   pub select-in : (m k : ℕ) → k < m → p k ≡ true → List·Memᴰ k (select m p)
   unfolding select

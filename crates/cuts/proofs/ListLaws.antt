@@ -1,6 +1,6 @@
 -- Lists whose entries stand in a relation to all behind them, and an entry's place in a list.
 -- Assumes nothing.
-use Prim.Native.Nat.{ℕ, suc, _<_}
+use Prim.Native.Nat.{ℕ, zero, suc, _<_}
 use mathlib.Core.Path.{_≡_, refl, sym, subst}
 use mathlib.Core.Logic.{_⊎_, inl, inr}
 use mathlib.Core.List.{List, [], _∷_, _++_, map, List·Memᴰ, List·Memᴰ·head, List·Memᴰ·tail, List·Memᴰ·not-nil, List·Memᴰ·cases-cons, List·Memᴰ·append-cases, Memᴰ·append-right, Memᴰ·of-map}
@@ -39,6 +39,11 @@ module _ {A : Type 0} where
       step d r (inr m) = r m
 
   -- an entry and its place
+  pub at-mem : (d : A) (xs : List A) (i : ℕ) → i < length xs → List·Memᴰ (getD xs i d) xs
+  at-mem d [] i b = absurd (omega arith)
+  at-mem d (x ∷ xs) zero b = List·Memᴰ·head refl
+  at-mem d (x ∷ xs) (suc i) b = List·Memᴰ·tail (at-mem d xs i (omega arith))
+
   pub mem-at : {x : A} {xs : List A} (d : A) → List·Memᴰ x xs → (i : ℕ) × (i < length xs) × (getD xs i d ≡ x)
   mem-at d (List·Memᴰ·head e) = (0, omega arith, sym e)
   mem-at d (List·Memᴰ·tail m) = let r = mem-at d m in (suc (r .0), omega (arith, r .1), r .2)

@@ -38,6 +38,11 @@ unfolding anyTo
 anyTo-at zero f = λ k b. absurd (not-suc-le-zero b)
 anyTo-at (suc n) f = all-suc (λ k. f k ≡ true → anyTo (suc n) f ≡ true) n (λ k b e. or-left (anyTo n f) (f n) (anyTo-at n f k b e)) (or-right (anyTo n f) (f n))
 
+pub anyTo-congr : (n : ℕ) (f g : ℕ → Bool) → ((k : ℕ) → k < n → f k ≡ g k) → anyTo n f ≡ anyTo n g
+unfolding anyTo
+anyTo-congr zero f g h = refl
+anyTo-congr (suc n) f g h = rw (anyTo-congr n f g (λ k b. h k (omega arith)), h n (omega arith))
+
 pub allTo-at : (n : ℕ) (f : ℕ → Bool) → allTo n f ≡ true → (k : ℕ) → k < n → f k ≡ true
 unfolding allTo
 allTo-at zero f h = λ k b. absurd (not-suc-le-zero b)
@@ -129,6 +134,16 @@ count-more n f g x b p q e =
     go : (y : ℕ) → y < n → (eqb x y ≡ true) ⊎ (eqb x y ≡ false) → only (g y) 1 ≡ only (f y) 1 + only (eqb x y) 1
     go y c (inl r) = rw (r, ← eqb-true x y r, p, q)
     go y c (inr r) = rw (r, e y c (λ z. eqb-false x y r (sym z))) (omega arith)
+
+-- a number that passes the test is counted
+pub count-rises : (n k : ℕ) (f : ℕ → Bool) → k < n → f k ≡ true → countTo k f < countTo n f
+unfolding sumTo
+count-rises zero k f b h = absurd (omega arith)
+count-rises (suc n) k f b h = go (count-rises n k f) (decLt k n)
+  where
+    go : (k < n → f k ≡ true → countTo k f < countTo n f) → Dec (k < n) → countTo k f < countTo n f + only (f n) 1
+    go r (yes c) = let a = r c h in omega arith
+    go r (no c) = let e : n ≡ k = omega arith in rw (e, h) (omega arith)
 
 pub count-lacks : (n : ℕ) (f : ℕ → Bool) (x : ℕ) → x < n → f x ≡ false → countTo n f < n
 count-lacks n f x b p =
@@ -252,6 +267,11 @@ pub table-length : {A : Type 0} (n : ℕ) (f : ℕ → A) → length (table n f)
 unfolding table
 table-length zero f = refl
 table-length (suc n) f = rw length-append (let r = table-length n f in omega arith)
+
+pub table-congr : {A : Type 0} (n : ℕ) (f g : ℕ → A) → ((k : ℕ) → k < n → f k ≡ g k) → table n f ≡ table n g
+unfolding table
+table-congr zero f g h = refl
+table-congr (suc n) f g h = rw (table-congr n f g (λ k b. h k (omega arith)), h n (omega arith))
 
 pub table-at : {A : Type 0} (d : A) (n : ℕ) (f : ℕ → A) (x : ℕ) → x < n → getD (table n f) x d ≡ f x
 unfolding table

@@ -3,7 +3,7 @@
 use Prim.Native.Nat.{ℕ, zero, suc, _+_, _-_, _*_, _≤_, _<_}
 use mathlib.Core.Path.{_≡_, refl, sym, ap, _∙_, subst}
 use mathlib.Core.Bool.{Bool, true, false, _&&_, _||_}
-use mathlib.Core.List.{List, [], _∷_}
+use mathlib.Core.List.{List, [], _∷_, _++_}
 use native.Mathlib.Nat.{not-suc-le-zero}
 use native.Mathlib.Omega.{arith}
 use lib.ListN.{length, getD, drop}
@@ -16,36 +16,37 @@ use Rattle.cuts.proofs.FlagLaws.{clash, neither}
 use Rattle.cuts.proofs.SumLaws.{anyTo-at, sum-congr, count-cut, table-length, table-at}
 use Rattle.sheet.specs.Bytes.{Bytes, mapBit}
 use Rattle.sheet.specs.Reading.{Check, accepted, check, firstFailing, records}
-use Rattle.sheet.specs.Sheet.{Format, Accepted, nodesIn, linksIn, treesIn, headerChecks, linkIn, linkChecks, linkRecord, nextLink, mapLength, treeIn, treeChecks, treeRecord, network, decode}
+use Rattle.sheet.specs.Sheet.{Format, Accepted, Counts, countsIn, countChecks, headerRecord, linkIn, shapeChecks, valueChecks, linkRecord, nextLink, mapLength, treeIn, mapChecks, treeChecks, treeRecord, network, decodeBody, decode}
 use Rattle.sheet.proofs.ReadingLaws.{passed, unless-accepted, andThen-accepted, All, records-all}
 
 -- ---- the header
 
-record Counted (sheet : Bytes) : Type 0 where
-  nodes-least : 2 ≤ nodesIn sheet
-  nodes-most : nodesIn sheet ≤ 256
-  links-least : nodesIn sheet - 1 ≤ linksIn sheet
-  links-most : linksIn sheet ≤ 2048
-  trees-least : 0 < treesIn sheet
-  trees-most : treesIn sheet ≤ 32
+pub record GoodCounts (c : Counts) : Type 0 where
+  pub nodes-least : 2 ≤ c .nodes
+  pub nodes-most : c .nodes ≤ 256
+  pub links-least : c .nodes - 1 ≤ c .links
+  pub links-most : c .links ≤ 2048
+  pub trees-least : 0 < c .trees
+  pub trees-most : c .trees ≤ 32
 
-counted : (sheet : Bytes) → firstFailing (headerChecks sheet) ≡ 0 → Counted sheet
-unfolding headerChecks
-counted sheet h =
-    let n : ℕ = nodesIn sheet in
-    let m : ℕ = linksIn sheet in
-    let t : ℕ = treesIn sheet in
-    let a = neither (ltb n 2) (ltb 256 n) (passed 4 (headerChecks sheet) refl h) in
-    let b = neither (ltb m (n - 1)) (ltb 2048 m) (passed 5 (headerChecks sheet) refl h) in
-    let c = neither (eqb t 0) (ltb 32 t) (passed 6 (headerChecks sheet) refl h) in
-    record {
-      nodes-least = ltb-false n 2 (a .0);
-      nodes-most = ltb-false 256 n (a .1);
-      links-least = ltb-false m (n - 1) (b .0);
-      links-most = ltb-false 2048 m (b .1);
-      trees-least = positive t (eqb-false t 0 (c .0));
-      trees-most = ltb-false 32 t (c .1);
-    }
+pub good-counts : (sheet : Bytes) (c : Counts) (rest : Bytes) → headerRecord sheet ≡ accepted c rest → GoodCounts c
+unfolding headerRecord countChecks
+good-counts sheet c rest e =
+    let k : Counts = countsIn sheet in
+    let cs : List Check = check 3 (ltb (length sheet) 5) ∷ countChecks k in
+    let r = unless-accepted (firstFailing cs) _ e in
+    let a = neither (ltb (k .nodes) 2) (ltb 256 (k .nodes)) (passed 4 cs refl (r .0)) in
+    let b = neither (ltb (k .links) (k .nodes - 1)) (ltb 2048 (k .links)) (passed 5 cs refl (r .0)) in
+    let d = neither (eqb (k .trees) 0) (ltb 32 (k .trees)) (passed 6 cs refl (r .0)) in
+    let q : k ≡ c = cc in
+    subst GoodCounts q (record {
+      nodes-least = ltb-false (k .nodes) 2 (a .0);
+      nodes-most = ltb-false 256 (k .nodes) (a .1);
+      links-least = ltb-false (k .links) (k .nodes - 1) (b .0);
+      links-most = ltb-false 2048 (k .links) (b .1);
+      trees-least = positive (k .trees) (eqb-false (k .trees) 0 (d .0));
+      trees-most = ltb-false 32 (k .trees) (d .1);
+    })
   where
     positive : (t : ℕ) → (t ≡ 0 → ⊥) → 0 < t
     positive zero f = absurd (f refl)
@@ -53,18 +54,18 @@ counted sheet h =
 
 -- ---- links
 
-record GoodLink (f : Format) (nodes : ℕ) (l : Link) : Type 0 where
-  first-in : l .first < nodes
-  second-in : l .second < nodes
-  differ : l .first ≡ l .second → ⊥
-  light : l .weight ≤ f .weightLimit
+pub record GoodLink (f : Format) (nodes : ℕ) (l : Link) : Type 0 where
+  pub first-in : l .first < nodes
+  pub second-in : l .second < nodes
+  pub differ : l .first ≡ l .second → ⊥
+  pub light : l .weight ≤ f .weightLimit
 
-good-link : (f : Format) (nodes : ℕ) (got : List Link) (bs : Bytes) (l : Link) (rest : Bytes) → nextLink f nodes got bs ≡ accepted l rest → GoodLink f nodes l
-unfolding linkRecord linkChecks
+pub good-link : (f : Format) (nodes : ℕ) (got : List Link) (bs : Bytes) (l : Link) (rest : Bytes) → nextLink f nodes got bs ≡ accepted l rest → GoodLink f nodes l
+unfolding linkRecord shapeChecks valueChecks
 good-link f nodes got bs l rest e =
     let before : Link = getD got (length got - 1) noLink in
     let k : Link = linkIn f before bs in
-    let cs : List Check = linkChecks f nodes (eqb (length got) 0) before bs in
+    let cs : List Check = shapeChecks f (eqb (length got) 0) bs ++ valueChecks f nodes k in
     let r = unless-accepted (firstFailing cs) _ e in
     let a = neither (leb nodes (k .first) || leb nodes (k .second)) (eqb (k .first) (k .second)) (passed 10 cs refl (r .0)) in
     let b = neither (leb nodes (k .first)) (leb nodes (k .second)) (a .0) in
@@ -83,30 +84,32 @@ record GoodTree (net : Network) (t : Tree) : Type 0 where
   counted : memberCount net t ≡ net .nodes - 1
   spanning : spans net t ≡ true
 
--- with no bit set from the link count up, the ones of the map are the members
-members-counted : (net : Network) (bs : Bytes) → anyTo (8 * mapLength (linkCount net)) (λ k. leb (linkCount net) k && mapBit (drop 4 bs) k) ≡ false
-    → memberCount net (treeIn net bs) ≡ countTo (8 * mapLength (linkCount net)) (mapBit (drop 4 bs))
-unfolding memberCount treeIn
-members-counted net bs h =
-    sum-congr (linkCount net) _ _ (λ k b. rw (table-at false (linkCount net) (mapBit (drop 4 bs)) k b))
-    ∙ sym (count-cut (linkCount net) (8 * mapLength (linkCount net)) (mapBit (drop 4 bs)) (omega arith) (λ k a b. clear k a b (mapBit (drop 4 bs) k) refl))
+-- with no bit set from the link count up, the ones of the map are those below it
+pub ones-below : (map : Bytes) (links : ℕ) → anyTo (8 * mapLength links) (λ k. leb links k && mapBit map k) ≡ false
+    → countTo (8 * mapLength links) (mapBit map) ≡ countTo links (mapBit map)
+ones-below map links h = count-cut links (8 * mapLength links) (mapBit map) (omega arith) (λ k a b. clear k a b (mapBit map k) refl)
   where
-    clear : (k : ℕ) → linkCount net ≤ k → k < 8 * mapLength (linkCount net) → (c : Bool) → mapBit (drop 4 bs) k ≡ c → c ≡ false
+    clear : (k : ℕ) → links ≤ k → k < 8 * mapLength links → (c : Bool) → mapBit map k ≡ c → c ≡ false
     clear k a b false e = refl
-    clear k a b true e = clash (anyTo-at _ (λ j. leb (linkCount net) j && mapBit (drop 4 bs) j) k b (rw (le-leb (linkCount net) k a) e)) h
+    clear k a b true e = clash (anyTo-at (8 * mapLength links) (λ j. leb links j && mapBit map j) k b (rw (le-leb links k a) e)) h
+
+members-counted : (net : Network) (bs : Bytes) → memberCount net (treeIn net bs) ≡ countTo (linkCount net) (mapBit (drop 4 bs))
+unfolding memberCount treeIn
+members-counted net bs = sum-congr (linkCount net) _ _ (λ k b. rw (table-at false (linkCount net) (mapBit (drop 4 bs)) k b))
 
 members-sized : (net : Network) (bs : Bytes) → length (treeIn net bs .members) ≡ linkCount net
 unfolding treeIn
 members-sized net bs = table-length (linkCount net) _
 
 good-tree : (net : Network) (got : List Tree) (bs : Bytes) (t : Tree) (rest : Bytes) → treeRecord net bs ≡ accepted t rest → GoodTree net t
-unfolding treeRecord treeChecks
+unfolding treeRecord treeChecks mapChecks
 good-tree net got bs t rest e =
     let r = unless-accepted (firstFailing (treeChecks net bs)) _ e in
     let q : treeIn net bs ≡ t = cc in
     subst (GoodTree net) q (record {
       sized = members-sized net bs;
-      counted = members-counted net bs (passed 13 (treeChecks net bs) refl (r .0)) ∙ eqb-true _ _ (not-false _ (passed 14 (treeChecks net bs) refl (r .0)));
+      counted = members-counted net bs ∙ sym (ones-below (drop 4 bs) (linkCount net) (passed 13 (treeChecks net bs) refl (r .0)))
+          ∙ eqb-true _ _ (not-false _ (passed 14 (treeChecks net bs) refl (r .0)));
       spanning = not-false _ (passed 15 (treeChecks net bs) refl (r .0));
     })
 
@@ -131,38 +134,38 @@ none : {A : Type 0} (d : A) (Q : A → Type 0) → All d Q []
 none d Q i b = absurd (not-suc-le-zero b)
 
 pub decode-accepted : (f : Format) (sheet : Bytes) (net : Network) (rest : Bytes) → decode f sheet ≡ accepted net rest → Accepted f net
-unfolding decode
+unfolding decode decodeBody
 decode-accepted f sheet net rest e =
-    let n : ℕ = nodesIn sheet in
-    let h = unless-accepted (firstFailing (headerChecks sheet)) _ e in
-    let c = counted sheet (h .0) in
-    let l = andThen-accepted (records (nextLink f n) (linksIn sheet) [] (drop 5 sheet)) _ (h .1) in
-    let t = andThen-accepted (records (λ _. treeRecord (network n (l .0) [])) (treesIn sheet) [] (l .1)) _ (l .3) in
+    let h = andThen-accepted (headerRecord sheet) _ e in
+    let c : Counts = h .0 in
+    let n : ℕ = c .nodes in
+    let l = andThen-accepted (records (nextLink f n) (c .links) [] (h .1)) _ (h .3) in
+    let t = andThen-accepted (records (λ _. treeRecord (network n (l .0) [])) (c .trees) [] (l .1)) _ (l .3) in
     let end = unless-accepted (firstFailing (check 16 (ltb 0 (length (t .1))) ∷ [])) _ (t .3) in
     let q : network n (l .0) (t .0) ≡ net = cc in
-    subst (Accepted f) q (from c (l .0) (t .0)
-    (records-all noLink (GoodLink f n) (nextLink f n) (good-link f n) (linksIn sheet) [] (drop 5 sheet) (none noLink (GoodLink f n)) (l .2))
-    (records-all noTree (GoodTree (network n (l .0) [])) (λ _. treeRecord (network n (l .0) [])) (good-tree (network n (l .0) [])) (treesIn sheet) [] (l .1)
+    subst (Accepted f) q (from c (good-counts sheet c (h .1) (h .2)) (l .0) (t .0)
+    (records-all noLink (GoodLink f n) (nextLink f n) (good-link f n) (c .links) [] (h .1) (none noLink (GoodLink f n)) (l .2))
+    (records-all noTree (GoodTree (network n (l .0) [])) (λ _. treeRecord (network n (l .0) [])) (good-tree (network n (l .0) [])) (c .trees) [] (l .1)
     (none noTree (GoodTree (network n (l .0) []))) (t .2)))
   where
-    from : Counted sheet → (links : List Link) (trees : List Tree) → All noLink (GoodLink f (nodesIn sheet)) links × (length links ≡ 0 + linksIn sheet)
-        → All noTree (GoodTree (network (nodesIn sheet) links [])) trees × (length trees ≡ 0 + treesIn sheet) → Accepted f (network (nodesIn sheet) links trees)
-    from c links trees g s =
-        let linked : Linked (network (nodesIn sheet) links trees) = record {
-          rooted = let a = c .nodes-least in omega arith;
+    from : (c : Counts) → GoodCounts c → (links : List Link) (trees : List Tree) → All noLink (GoodLink f (c .nodes)) links × (length links ≡ 0 + c .links)
+        → All noTree (GoodTree (network (c .nodes) links [])) trees × (length trees ≡ 0 + c .trees) → Accepted f (network (c .nodes) links trees)
+    from c w links trees g s =
+        let linked : Linked (network (c .nodes) links trees) = record {
+          rooted = let a = w .nodes-least in omega arith;
           first-in = λ k b. g .0 k b .first-in;
           second-in = λ k b. g .0 k b .second-in;
         } in
         record {
           sound = record {
-            several = c .nodes-least;
+            several = w .nodes-least;
             linked = linked;
-            listed = let a = c .trees-least in let b = s .1 in omega arith;
-            spanning = λ i b. let t = good-any (nodesIn sheet) links [] trees (s .0 i b) in record { linked = linked; counted = t .counted; spanning = t .spanning };
+            listed = let a = w .trees-least in let b = s .1 in omega arith;
+            spanning = λ i b. let t = good-any (c .nodes) links [] trees (s .0 i b) in record { linked = linked; counted = t .counted; spanning = t .spanning };
           };
-          nodes-most = c .nodes-most;
-          links-most = let a = c .links-most in let b = g .1 in omega arith;
-          trees-most = let a = c .trees-most in let b = s .1 in omega arith;
+          nodes-most = w .nodes-most;
+          links-most = let a = w .links-most in let b = g .1 in omega arith;
+          trees-most = let a = w .trees-most in let b = s .1 in omega arith;
           ends-differ = λ k b. g .0 k b .differ;
           weights-most = λ k b. g .0 k b .light;
           members-sized = λ i b. s .0 i b .sized;

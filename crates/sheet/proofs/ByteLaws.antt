@@ -1,12 +1,14 @@
--- Numbers and flags written as bytes and read again.
+-- Numbers and flags written as bytes and read again, and numbers read at a position.
 -- Assumes nothing.
 use Prim.Native.Nat.{ℕ, zero, suc, _+_, _*_, _/_, _%_, _^_, _<_}
 use mathlib.Core.Path.{_≡_, refl, ap, ap₂, _∙_}
 use mathlib.Core.Bool.{Bool, true, false, Bool·beq}
 use mathlib.Core.List.{List, [], _∷_, _++_, append-assoc}
+use native.Mathlib.Nat.{add-zero, zero-add, suc-add, mul-assoc, pow-succ'}
+use native.Mathlib.Numerals.{one-add}
 use native.Mathlib.Omega.{arith}
-use lib.ListN.{length, List·getD-append}
-use lib.Seq.{drop-at}
+use lib.ListN.{length, getD, drop, List·getD-append}
+use lib.Seq.{drop-at, getD-drop, drop-drop}
 use Rattle.cuts.specs.Sums.{allTo, table}
 use Rattle.cuts.specs.Network.{flag}
 use Rattle.cuts.proofs.FlagLaws.{flags-equal, one-table}
@@ -24,6 +26,24 @@ pub number-bytesOf : (w v : ℕ) (rest : Bytes) → v < 256 ^ w → number w (by
 unfolding number bytesOf
 number-bytesOf zero v rest h = omega arith
 number-bytesOf (suc w) v rest h = let r = number-bytesOf w (v / 256) rest (omega arith) in omega arith
+
+number-add : (v w : ℕ) (bs : Bytes) → number (v + w) bs ≡ number v bs + 256 ^ v * number w (drop v bs)
+unfolding number
+number-add zero w bs = rw (zero-add w) (omega arith)
+number-add (suc v) w bs = rw (suc-add, number-add v w (drop 1 bs), pow-succ', mul-assoc, drop-drop, one-add) (omega arith)
+
+pub front-drop : (at : ℕ) (bs : Bytes) → getD (drop at bs) 0 0 ≡ getD bs at 0
+front-drop at bs = rw (getD-drop, add-zero)
+
+pub number-one : (at : ℕ) (bs : Bytes) → number 1 (drop at bs) ≡ getD bs at 0
+unfolding number
+number-one at bs = rw (front-drop at bs) (omega arith)
+
+pub number-two : (at : ℕ) (bs : Bytes) → number 2 (drop at bs) ≡ getD bs at 0 + 256 * getD bs (at + 1) 0
+number-two at bs = rw (number-add 1 1 (drop at bs), number-one at bs, drop-drop 1 at bs, number-one (at + 1) bs)
+
+pub number-four : (at : ℕ) (bs : Bytes) → number 4 (drop at bs) ≡ number 2 (drop at bs) + 65536 * number 2 (drop (at + 2) bs)
+number-four at bs = rw (number-add 2 2 (drop at bs), drop-drop 2 at bs)
 
 -- each number fits its width
 abbrev pub Fitting : List ℕ → List ℕ → Type 0

@@ -1,5 +1,5 @@
 pub mod ReadingLaws
-pub mod Acceptance
 pub mod ByteLaws
+pub mod Acceptance
 pub mod AreaLaws
 pub mod Cases

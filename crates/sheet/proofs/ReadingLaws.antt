@@ -1,14 +1,14 @@
--- What is known where a value was read: each check passed, and each of the records read is one that `one` accepted.
--- Assumes nothing.
-use Prim.Native.Nat.{ℕ, zero, suc, _+_, _<_}
-use mathlib.Core.Path.{_≡_, refl, sym, ap, subst}
+-- What is known where a value was read: each check passed, and each of the records read is one that `one` accepted. What two lists of
+-- checks say, one behind the other. Assumes nothing.
+use Prim.Native.Nat.{ℕ, zero, suc, _+_, _-_, _<_}
+use mathlib.Core.Path.{_≡_, refl, sym, ap, _∙_, subst}
 use mathlib.Core.Bool.{Bool, true, false, _&&_, cond, and-eq-true-iff}
 use mathlib.Core.List.{List, [], _∷_, _++_}
 use native.Mathlib.Omega.{arith}
 use lib.ListN.{length, getD, length-append, List·getD-append}
 use lib.Seq.{getD-append-seam}
 use lib.Dec.{eqb, ltb}
-use borrow.Author.Tests.{eqb-true, ltb-true}
+use borrow.Author.Tests.{eqb-true, ltb-true, eq-eqb, ne-eqb}
 use Rattle.cuts.proofs.SumLaws.{all-suc}
 use Rattle.sheet.specs.Bytes.{Bytes}
 use Rattle.sheet.specs.Reading.{Check, firstFailing, Reading, accepted, refused, unless, andThen, records}
@@ -23,19 +23,19 @@ abbrev pub numbered : List Check → Bool
 numbered [] = true
 numbered (c ∷ cs) = ltb 0 (c .refusal) && numbered cs
 
+numbered-cons : (c : Check) (cs : List Check) → numbered (c ∷ cs) ≡ true → (0 < c .refusal) × (numbered cs ≡ true)
+numbered-cons c cs m = let p = and-eq-true-iff (ltb 0 (c .refusal)) (numbered cs) .0 m in (ltb-true 0 (c .refusal) (p .0), p .1)
+
 pub passed : (n : ℕ) (cs : List Check) → numbered cs ≡ true → firstFailing cs ≡ 0 → failing n cs ≡ false
 unfolding firstFailing
 passed n [] m h = refl
-passed n (c ∷ cs) m h = step (c .fails) refl (eqb (c .refusal) n) h (passed n cs)
+passed n (c ∷ cs) m h = let p = numbered-cons c cs m in step (p .0) (c .fails) refl (eqb (c .refusal) n) h (passed n cs (p .1))
   where
-    positive : (ltb 0 (c .refusal) ≡ true) × (numbered cs ≡ true)
-    positive = and-eq-true-iff (ltb 0 (c .refusal)) (numbered cs) .0 m
-
-    step : (b : Bool) → c .fails ≡ b → (q : Bool) → cond b (c .refusal) (firstFailing cs) ≡ 0 → (numbered cs ≡ true → firstFailing cs ≡ 0 → failing n cs ≡ false)
+    step : 0 < c .refusal → (b : Bool) → c .fails ≡ b → (q : Bool) → cond b (c .refusal) (firstFailing cs) ≡ 0 → (firstFailing cs ≡ 0 → failing n cs ≡ false)
         → cond q (c .fails) (failing n cs) ≡ false
-    step true e q h r = let l = ltb-true 0 (c .refusal) (positive .0) in absurd (omega arith)
-    step false e true h r = e
-    step false e false h r = r (positive .1) h
+    step l true e q h r = absurd (omega arith)
+    step l false e true h r = e
+    step l false e false h r = r h
 
 not-refused : {A B : Type 0} {n : ℕ} {x : A} {rest : Bytes} → refused n ≡ accepted x rest → B
 not-refused p = let z : _≡_ {A = ℕ} 0 1 = cc in absurd (omega arith)
@@ -46,6 +46,25 @@ unless-accepted {A} n r {x} {rest} h = step (eqb n 0) refl h
     step : (b : Bool) → eqb n 0 ≡ b → cond b r (refused n) ≡ accepted x rest → (n ≡ 0) × (r ≡ accepted x rest)
     step true e h = (eqb-true n 0 e, h)
     step false e h = not-refused h
+
+module _ {A : Type 0} (n : ℕ) (r : Reading A) where
+  pub unless-passed : n ≡ 0 → unless n r ≡ r
+  unless-passed h = rw (eq-eqb n 0 h)
+
+  pub unless-refused : (n ≡ 0 → ⊥) → unless n r ≡ refused n
+  unless-refused h = rw (ne-eqb n 0 h)
+
+-- two lists of checks, one behind the other
+pub unless-append : {A : Type 0} (xs ys : List Check) (r : Reading A) → numbered xs ≡ true
+    → unless (firstFailing (xs ++ ys)) r ≡ unless (firstFailing xs) (unless (firstFailing ys) r)
+unfolding firstFailing
+unless-append [] ys r m = refl
+unless-append {A} (c ∷ cs) ys r m = let p = numbered-cons c cs m in step (p .0) (c .fails) (unless-append cs ys r (p .1))
+  where
+    step : 0 < c .refusal → (b : Bool) → unless (firstFailing (cs ++ ys)) r ≡ unless (firstFailing cs) (unless (firstFailing ys) r)
+        → unless (cond b (c .refusal) (firstFailing (cs ++ ys))) r ≡ unless (cond b (c .refusal) (firstFailing cs)) (unless (firstFailing ys) r)
+    step l true e = let z : c .refusal ≡ 0 → ⊥ = λ q. omega arith in unless-refused (c .refusal) r z ∙ sym (unless-refused (c .refusal) _ z)
+    step l false e = e
 
 pub andThen-accepted : {A B : Type 0} (r : Reading A) (next : A → Bytes → Reading B) {y : B} {end : Bytes} → andThen r next ≡ accepted y end
     → (x : A) × (rest : Bytes) × (r ≡ accepted x rest) × (next x rest ≡ accepted y end)
@@ -71,3 +90,17 @@ module _ {A : Type 0} (d : A) (Q : A → Type 0) (one : List A → Bytes → Rea
       let s = records-all k (got ++ r .0 ∷ []) (r .1) (all-snoc d Q got (r .0) h (good got bs (r .0) (r .1) (r .2))) (r .3) in
       let l = length-append got (r .0 ∷ []) in
       (s .0, let m = s .1 in omega arith)
+
+-- one record more
+module _ {A : Type 0} (one : List A → Bytes → Reading A) (m k : ℕ) (got : List A) (bs : Bytes) (more : k < m) where
+  pub records-more : (x : A) (rest : Bytes) → one got bs ≡ accepted x rest → records one (m - k) got bs ≡ records one (m - (k + 1)) (got ++ x ∷ []) rest
+  unfolding records
+  records-more x rest e = let n : m - k ≡ suc (m - (k + 1)) = omega arith in rw (n, e)
+
+  pub records-stop : (n : ℕ) → one got bs ≡ refused n → records one (m - k) got bs ≡ refused n
+  unfolding records
+  records-stop n e = let q : m - k ≡ suc (m - (k + 1)) = omega arith in rw (q, e)
+
+pub records-done : {A : Type 0} (one : List A → Bytes → Reading A) (m k : ℕ) (got : List A) (bs : Bytes) → k ≡ m → records one (m - k) got bs ≡ accepted got bs
+unfolding records
+records-done one m k got bs e = let n : m - k ≡ 0 = omega arith in rw n

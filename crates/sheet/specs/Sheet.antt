@@ -3,27 +3,33 @@
 --   Format                       what later requests change: the widths of the fields behind a map byte, one for each bit of the
 --                                map, and the largest weight
 --   base                         document 01's format
---   nodesIn, linksIn, treesIn    the header's three counts
---   headerChecks sheet           refusals 3 to 6
+--   Counts                       how many nodes, links and trees there are
+--   countsIn sheet               the header's three counts
+--   countChecks c                refusals 4 to 6
+--   headerRecord sheet           the counts, or the refusal: 3, or one of these
 --   mapByte bs                   the map byte of the link record at the front of bs
 --   fieldStart f m i             where the field of bit i starts behind the map byte m
 --   recordLength f bs            the length of that record
 --   field f i before bs          the field of bit i in that record; `before` where its bit is not set
 --   linkIn f before bs           the link of that record, where the link before it is `before`
---   linkChecks f n start b bs    refusals 7 to 11 of that record, for n nodes and the link b before it; `start`: it is link 0
---   linkRecord f n start b bs    that link, or the refusal
+--   shapeChecks f start bs       refusals 7 to 9 of that record; `start`: it is link 0
+--   valueChecks f n l            refusals 10 and 11 of the link l, for n nodes
+--   linkRecord f n start b bs    that link, where b is the link before it, or the refusal
 --   nextLink f n got bs          the same behind the links `got`
 --   mapLength links              the bytes of a tree's link map
+--   treeLength links             the bytes of a tree record
 --   treeIn net bs                the tree of the tree record at the front of bs
+--   mapChecks n links map        refusals 13 and 14 of a tree's link map, for n nodes
 --   treeChecks net bs            refusals 12 to 15
 --   treeRecord net bs            that tree, or the refusal
 --   network n ls ts              the network of n nodes with the links ls and the trees ts
+--   decodeBody f c bs            the network of the records bs behind a header with the counts c, or the refusal; 16 is the last
 --   decode f sheet               the network of the sheet, or the refusal
 --   Accepted f net               what holds of every network that a sheet gives
 use Prim.Native.Nat.{ℕ, _+_, _-_, _*_, _/_, _%_, _^_, _≤_, _<_}
 use mathlib.Core.Path.{_≡_}
 use mathlib.Core.Bool.{Bool, _&&_, _||_, not, cond}
-use mathlib.Core.List.{List, [], _∷_}
+use mathlib.Core.List.{List, [], _∷_, _++_}
 use lib.ListN.{length, getD, drop}
 use lib.Dec.{eqb, ltb, leb}
 use Rattle.cuts.specs.Sums.{sumTo, only, countTo, anyTo, table}
@@ -41,23 +47,26 @@ base = record { widths = 2 ∷ 2 ∷ 4 ∷ []; weightLimit = 1_000_000 }
 
 -- ---- header
 
-abbrev pub nodesIn : Bytes → ℕ
-nodesIn sheet = number 2 sheet
+pub record Counts : Type 0 where
+  pub nodes : ℕ
+  pub links : ℕ
+  pub trees : ℕ
 
-abbrev pub linksIn : Bytes → ℕ
-linksIn sheet = number 2 (drop 2 sheet)
-
-abbrev pub treesIn : Bytes → ℕ
-treesIn sheet = number 1 (drop 4 sheet)
-
-unfoldable pub headerChecks : Bytes → List Check
+unfoldable pub countsIn : Bytes → Counts
 unfolding number
-headerChecks sheet =
-    check 3 (ltb (length sheet) 5)
-    ∷ check 4 (ltb (nodesIn sheet) 2 || ltb 256 (nodesIn sheet))
-    ∷ check 5 (ltb (linksIn sheet) (nodesIn sheet - 1) || ltb 2048 (linksIn sheet))
-    ∷ check 6 (eqb (treesIn sheet) 0 || ltb 32 (treesIn sheet))
+countsIn sheet = record { nodes = number 2 sheet; links = number 2 (drop 2 sheet); trees = number 1 (drop 4 sheet) }
+
+unfoldable pub countChecks : Counts → List Check
+countChecks c =
+    check 4 (ltb (c .nodes) 2 || ltb 256 (c .nodes))
+    ∷ check 5 (ltb (c .links) (c .nodes - 1) || ltb 2048 (c .links))
+    ∷ check 6 (eqb (c .trees) 0 || ltb 32 (c .trees))
     ∷ []
+
+unfoldable pub headerRecord : Bytes → Reading Counts
+unfolding firstFailing countsIn countChecks
+headerRecord sheet =
+    unless (firstFailing (check 3 (ltb (length sheet) 5) ∷ countChecks (countsIn sheet))) (accepted (countsIn sheet) (drop 5 sheet))
 
 -- ---- links
 
@@ -83,21 +92,25 @@ linkIn f before bs =
     record { first = field f 0 (before .first) bs; second = field f 1 (before .second) bs; weight = field f 2 (before .weight) bs }
 
 -- link 0 has both ends and a weight: the map byte's three lowest bits stand
-unfoldable pub linkChecks : Format → ℕ → Bool → Link → Bytes → List Check
-unfolding fieldStart linkIn
-linkChecks f nodes start before bs =
-    let l : Link = linkIn f before bs in
+unfoldable pub shapeChecks : Format → Bool → Bytes → List Check
+unfolding fieldStart
+shapeChecks f start bs =
     check 7 (eqb (length bs) 0)
     ∷ check 8 (leb (2 ^ length (f .widths)) (mapByte bs) || (start && not (eqb (mapByte bs % 8) 7)))
     ∷ check 9 (ltb (length bs) (recordLength f bs))
-    ∷ check 10 (leb nodes (l .first) || leb nodes (l .second) || eqb (l .first) (l .second))
+    ∷ []
+
+unfoldable pub valueChecks : Format → ℕ → Link → List Check
+valueChecks f nodes l =
+    check 10 (leb nodes (l .first) || leb nodes (l .second) || eqb (l .first) (l .second))
     ∷ check 11 (ltb (f .weightLimit) (l .weight))
     ∷ []
 
 unfoldable pub linkRecord : Format → ℕ → Bool → Link → Bytes → Reading Link
-unfolding firstFailing linkChecks
+unfolding firstFailing fieldStart linkIn shapeChecks valueChecks
 linkRecord f nodes start before bs =
-    unless (firstFailing (linkChecks f nodes start before bs)) (accepted (linkIn f before bs) (drop (recordLength f bs) bs))
+    let l : Link = linkIn f before bs in
+    unless (firstFailing (shapeChecks f start bs ++ valueChecks f nodes l)) (accepted l (drop (recordLength f bs) bs))
 
 abbrev pub nextLink : Format → ℕ → List Link → Bytes → Reading Link
 nextLink f nodes got bs = linkRecord f nodes (eqb (length got) 0) (getD got (length got - 1) noLink) bs
@@ -107,39 +120,51 @@ nextLink f nodes got bs = linkRecord f nodes (eqb (length got) 0) (getD got (len
 abbrev pub mapLength : ℕ → ℕ
 mapLength links = (links + 7) / 8
 
+abbrev pub treeLength : ℕ → ℕ
+treeLength links = 4 + mapLength links
+
 unfoldable pub treeIn : Network → Bytes → Tree
 unfolding number table
 treeIn net bs = record { share = number 4 bs; members = table (linkCount net) (mapBit (drop 4 bs)) }
 
+unfoldable pub mapChecks : ℕ → ℕ → Bytes → List Check
+unfolding anyTo sumTo
+mapChecks nodes links map =
+    let size : ℕ = mapLength links in
+    check 13 (anyTo (8 * size) (λ k. leb links k && mapBit map k))
+    ∷ check 14 (not (eqb (countTo (8 * size) (mapBit map)) (nodes - 1)))
+    ∷ []
+
 unfoldable pub treeChecks : Network → Bytes → List Check
-unfolding anyTo sumTo treeIn spans
+unfolding mapChecks treeIn spans
 treeChecks net bs =
-    let size : ℕ = mapLength (linkCount net) in
-    check 12 (ltb (length bs) (4 + size))
-    ∷ check 13 (anyTo (8 * size) (λ k. leb (linkCount net) k && mapBit (drop 4 bs) k))
-    ∷ check 14 (not (eqb (countTo (8 * size) (mapBit (drop 4 bs))) (net .nodes - 1)))
-    ∷ check 15 (not (spans net (treeIn net bs)))
+    check 12 (ltb (length bs) (treeLength (linkCount net)))
+    ∷ mapChecks (net .nodes) (linkCount net) (drop 4 bs)
+    ++ check 15 (not (spans net (treeIn net bs)))
     ∷ []
 
 unfoldable pub treeRecord : Network → Bytes → Reading Tree
 unfolding firstFailing treeChecks treeIn
 treeRecord net bs =
-    unless (firstFailing (treeChecks net bs)) (accepted (treeIn net bs) (drop (4 + mapLength (linkCount net)) bs))
+    unless (firstFailing (treeChecks net bs)) (accepted (treeIn net bs) (drop (treeLength (linkCount net)) bs))
 
 -- ---- the whole sheet
 
 abbrev pub network : ℕ → List Link → List Tree → Network
 network nodes links trees = record { nodes = nodes; links = links; trees = trees }
 
+-- the links, the trees, and nothing behind them
+unfoldable pub decodeBody : Format → Counts → Bytes → Reading Network
+unfolding firstFailing records linkRecord treeRecord
+decodeBody f c bs =
+    andThen (records (nextLink f (c .nodes)) (c .links) [] bs)
+    (λ links rest. andThen (records (λ _. treeRecord (network (c .nodes) links [])) (c .trees) [] rest)
+    (λ trees end. unless (firstFailing (check 16 (ltb 0 (length end)) ∷ [])) (accepted (network (c .nodes) links trees) end)))
+
 -- document 01 calls the bytes the link sheet, and a refused sheet turned down
 unfoldable pub decode : Format → Bytes → Reading Network
-unfolding number firstFailing headerChecks records linkRecord treeRecord
-decode f sheet =
-    unless (firstFailing (headerChecks sheet))
-    (andThen (records (nextLink f (nodesIn sheet)) (linksIn sheet) [] (drop 5 sheet))
-    (λ links rest. andThen (records (λ _. treeRecord (network (nodesIn sheet) links [])) (treesIn sheet) [] rest)
-    (λ trees end. unless (firstFailing (check 16 (ltb 0 (length end)) ∷ []))
-    (accepted (network (nodesIn sheet) links trees) end))))
+unfolding headerRecord decodeBody
+decode f sheet = andThen (headerRecord sheet) (decodeBody f)
 
 pub record Accepted (f : Format) (net : Network) : Type 0 where
   pub sound : Sound net

@@ -19,7 +19,6 @@ use Rattle.cuts.specs.Network.{Tree, Network, Linked, linkAt, linkCount}
 use Rattle.cuts.specs.Tree.{memberCount, spans}
 use Rattle.cuts.specs.Candidate.{memberLinks}
 use Rattle.trees.specs.Order.{entry, Ordered, Owned}
-use Rattle.trees.specs.declared.Hanging.{Hanging}
 use Rattle.trees.specs.declared.Next.{Next}
 use Rattle.trees.specs.declared.Next.the-variants.{Hangs, Nothing}
 

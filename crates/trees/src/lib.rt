@@ -3,7 +3,7 @@
 // the root.
 // The ends of link k stand in firsts[k] and seconds[k]; the tree's members are the first `count` numbers of `members`.
 ghost use mathlib.Core.Path.{_≡_};
-ghost use Prim.Native.Nat.{ℕ, _≤_, _<_};
+ghost use Prim.Native.Nat.{_≤_, _<_};
 ghost use lib.ListN.{length, take, replicate};
 ghost use Rattle.cuts.specs.Network.{Network, Tree};
 ghost use Rattle.trees.specs.Growing.{Within, nextIn, Posed, GrownTree};
