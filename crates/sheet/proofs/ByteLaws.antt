@@ -9,7 +9,8 @@ use native.Mathlib.Numerals.{one-add}
 use native.Mathlib.Omega.{arith}
 use lib.ListN.{length, getD, drop, List·getD-append}
 use lib.Seq.{drop-at, getD-drop, drop-drop}
-use Rattle.cuts.specs.Sums.{allTo, table}
+use lib.Dec.{eqb}
+use Rattle.cuts.specs.Sums.{only, allTo, table}
 use Rattle.cuts.specs.Network.{flag}
 use Rattle.cuts.proofs.FlagLaws.{flags-equal, one-table}
 use Rattle.cuts.proofs.SumLaws.{allTo-at, table-at, table-length}
@@ -62,6 +63,15 @@ fields-fieldBytes (w ∷ ws) (v ∷ vs) rest h =
     (ap (fields ws) (drop-at (bytesOf w v) (fieldBytes ws vs ++ rest) w (bytesOf-length w v)) ∙ fields-fieldBytes ws vs rest (h .1)))
 
 -- ---- flags
+
+-- a flag that is a digit
+pub only-digit : (w x : ℕ) → only (eqb (x % 2) 1) w ≡ w * (x % 2)
+only-digit w x = step (x % 2) (omega arith)
+  where
+    step : (b : ℕ) → b < 2 → only (eqb b 1) w ≡ w * b
+    step zero h = omega arith
+    step (suc zero) h = omega arith
+    step (suc (suc b)) h = absurd (omega arith)
 
 -- each bit of the byte of eight flags is its flag
 abbrev readsBack : List Bool → Bool

@@ -1,0 +1,63 @@
+// Link maps: one bit a link, link k in bit k mod 8 of byte k / 8.
+ghost use mathlib.Core.Path.{_≡_};
+ghost use mathlib.Core.Bool.{_&&_};
+ghost use Prim.Native.Nat.{_*_, _≤_, _<_};
+ghost use lib.Dec.{leb};
+ghost use lib.ListN.{length, take};
+ghost use Rattle.cuts.specs.Sums.{countTo, anyTo, select};
+ghost use Rattle.sheet.specs.Bytes.{mapBit};
+
+// Whether bit k is set.
+pub fn bit_set(map: &[u8], k: usize) -> bool
+    requires { ⌜ k < 8 * length (now map) ⌝ }
+    ensures { λ r. ⌜ r ≡ mapBit (now (map .entry)) k ⌝ }
+{
+    (map[k / 8] >> (k % 8)) % 2 == 1
+}
+
+// Whether a bit is set from the link count up.
+pub fn stray_bit(map: &[u8], links: usize) -> bool
+    requires { ⌜ length (now map) ≤ 256 ⌝ }
+    ensures { λ r. ⌜ r ≡ anyTo (8 * length (now (map .entry))) (λ k. leb links k && mapBit (now (map .entry)) k) ⌝ }
+{
+    let mut k = links;
+    while k < 8 * map.len() {
+        if bit_set(map, k) {
+            return true;
+        }
+        k += 1;
+    }
+    false
+}
+
+// How many bits are set.
+pub fn ones(map: &[u8]) -> usize
+    requires { ⌜ length (now map) ≤ 256 ⌝ }
+    ensures { λ r. ⌜ r ≡ countTo (8 * length (now (map .entry))) (mapBit (now (map .entry))) ⌝ }
+{
+    let mut sum = 0;
+    let mut i = 0;
+    while i < map.len() {
+        sum += u8::count_ones(map[i]) as usize;
+        i += 1;
+    }
+    sum
+}
+
+// Lists the links below the link count whose bits are set, rising, and answers how many they are.
+pub fn list_members(map: &[u8], links: usize, members: &mut [u16]) -> usize
+    requires { ⌜ (links ≤ 8 * length (now map)) × (links ≤ 2048) ⌝ }
+    requires { ⌜ countTo links (mapBit (now map)) ≤ length (now members) ⌝ }
+    ensures { λ r. ⌜ (r ≡ countTo links (mapBit (now (map .entry)))) × (take r (now (members .exit)) ≡ select links (mapBit (now (map .entry)))) ⌝ }
+{
+    let mut found = 0;
+    let mut k = 0;
+    while k < links {
+        if bit_set(map, k) {
+            members[found] = k as u16;
+            found += 1;
+        }
+        k += 1;
+    }
+    found
+}
