@@ -14,6 +14,7 @@ use Rattle.records.proofs.MapLaws.{list-set, list-unset}
 use Rattle.records.proofs.maps.list_members.Statement.{statement}
 use Rattle.records.proofs.maps.list_members.Tie as tie
 
+-- after k bits: what is listed, and what the caller ensured
 record Listing (map : Bytes) (links room : ℕ) (members : List ℕ) (found k : ℕ) : Type 0 where
   counted : found ≡ countTo k (mapBit map)
   listed : take found members ≡ select k (mapBit map)
@@ -24,6 +25,7 @@ record Listing (map : Bytes) (links room : ℕ) (members : List ℕ) (found k : 
   most : links ≤ 2048
   fits : countTo links (mapBit map) ≤ room
 
+-- one bit more
 module _ {map : Bytes} {links room : ℕ} {members : List ℕ} {found k : ℕ} (l : Listing map links room members found k) (more : k < links) where
   set-room : mapBit map k ≡ true → found < length members
   set-room h = let m = count-rises links k (mapBit map) more h in omega arith

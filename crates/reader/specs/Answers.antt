@@ -1,0 +1,51 @@
+-- What the answers and arrays of this crate's functions say: the trees and the network read, or document 01's number.
+-- Assumes nothing.
+--   TreeArrays ms w o p l             the arrays for a tree's members, work space, order, parents and parent links have their lengths
+--   PlantedTree net t ms o p l all    the tree has grown: the first numbers of ms, one fewer than nodes, are its members, rising, and
+--                                     the rest is as GrownTree says
+--   treesFrom net k bs                the trees of the k records at the front of bs, each at its place behind the one before
+--   networkAt s fs ss ws c p          the network that the arrays and the tree records from position p of s on hold, with the counts c
+--   sheetSays s fs ss ws r            what r says where it answers to reading the sheet s into the arrays
+--   TreesLast s r                     the tree records reach to the end of s
+use Prim.Native.Nat.{ℕ, _+_, _-_, _*_, _≤_}
+use mathlib.Core.Path.{_≡_}
+use mathlib.Core.Bool.{Bool}
+use mathlib.Core.List.{List, []}
+use lib.ListN.{length, take, drop}
+use Rattle.cuts.specs.Sums.{table}
+use Rattle.cuts.specs.Network.{Link, Tree, Network, linkCount}
+use Rattle.cuts.specs.Candidate.{memberLinks}
+use Rattle.trees.specs.Growing.{GrownTree}
+use Rattle.sheet.specs.Bytes.{Bytes}
+use Rattle.sheet.specs.Reading.{Reading, accepted, refused}
+use Rattle.sheet.specs.Sheet.{Counts, treeLength, treeIn, network}
+use Rattle.records.specs.Answers.{countsOf, linksOf}
+use Rattle.reader.specs.declared.Sheet.{Sheet}
+use Rattle.reader.specs.declared.Sheet.the-variants.{Read, Refused}
+
+abbrev pub TreeArrays : List ℕ → List ℕ → List ℕ → List ℕ → List ℕ → Type 0
+TreeArrays members work order parents links =
+    (length members ≡ 256) × (256 ≤ length work) × (length order ≡ 256) × (length parents ≡ 256) × (length links ≡ 256)
+
+pub record PlantedTree (net : Network) (t : Tree) (members order parents links : List ℕ) (all : Bool) : Type 0 where
+  pub listed : take (net .nodes - 1) members ≡ memberLinks net t
+  pub grown : GrownTree net t order parents links all
+
+unfoldable pub treesFrom : Network → ℕ → Bytes → List Tree
+unfolding table treeIn
+treesFrom net k bs = table k (λ i. treeIn net (drop (i * treeLength (linkCount net)) bs))
+
+-- ---- the whole sheet
+
+abbrev pub networkAt : Bytes → List ℕ → List ℕ → List ℕ → Counts → ℕ → Network
+networkAt s fs ss ws c p =
+    let links : List Link = linksOf (c .links) fs ss ws in
+    network (c .nodes) links (treesFrom (network (c .nodes) links []) (c .trees) (drop p s))
+
+abbrev pub sheetSays : Bytes → List ℕ → List ℕ → List ℕ → Sheet → Reading Network
+sheetSays s fs ss ws (Read c p) = accepted (networkAt s fs ss ws (countsOf c) p) []
+sheetSays s fs ss ws (Refused n) = refused n
+
+abbrev pub TreesLast : Bytes → Sheet → Type 0
+TreesLast s (Read c p) = p + c .trees * treeLength (c .links) ≡ length s
+TreesLast s (Refused n) = Unit {0}
