@@ -89,7 +89,7 @@ unfolding mapChecks
 map-numbered nodes links map = refl
 
 module _ (net : Network) (bs : Bytes) where
-  pub tree-cut-off : length bs < treeLength (linkCount net) → treeRecord net bs ≡ refused 12
+  tree-cut-off : length bs < treeLength (linkCount net) → treeRecord net bs ≡ refused 12
   unfolding firstFailing treeChecks treeRecord
   tree-cut-off h = rw (lt-ltb _ _ h)
 
@@ -103,14 +103,14 @@ module _ (net : Network) (bs : Bytes) where
         (unless-append (mapChecks (net .nodes) (linkCount net) (drop 4 bs)) (check 15 (not (spans net (treeIn net bs))) ∷ []) _
         (map-numbered (net .nodes) (linkCount net) (drop 4 bs)))
 
-    pub tree-refused : (n : ℕ) → firstFailing (mapChecks (net .nodes) (linkCount net) (drop 4 bs)) ≡ n → (n ≡ 0 → ⊥) → treeRecord net bs ≡ refused n
+    tree-refused : (n : ℕ) → firstFailing (mapChecks (net .nodes) (linkCount net) (drop 4 bs)) ≡ n → (n ≡ 0 → ⊥) → treeRecord net bs ≡ refused n
     tree-refused n h z = rw (tree-whole, h) (unless-refused n _ z)
 
     module _ (passes : firstFailing (mapChecks (net .nodes) (linkCount net) (drop 4 bs)) ≡ 0) where
-      pub tree-apart : spans net (treeIn net bs) ≡ false → treeRecord net bs ≡ refused 15
+      tree-apart : spans net (treeIn net bs) ≡ false → treeRecord net bs ≡ refused 15
       tree-apart h = rw (tree-whole, passes, h)
 
-      pub tree-read : spans net (treeIn net bs) ≡ true → treeRecord net bs ≡ accepted (treeIn net bs) (drop (treeLength (linkCount net)) bs)
+      tree-read : spans net (treeIn net bs) ≡ true → treeRecord net bs ≡ accepted (treeIn net bs) (drop (treeLength (linkCount net)) bs)
       tree-read h = rw (tree-whole, passes, h)
 
 -- ---- at a position of the sheet, with the map as a slice

@@ -6,8 +6,9 @@ use records::Step;
 use records::header::Counts;
 use records::header::Header;
 use records::header::read_header;
+use records::limits::HEADER_LENGTH;
 use records::links::read_links;
-use records::refusals::*;
+use records::refusals;
 ghost use mathlib.Core.Path.{_≡_};
 ghost use Prim.Native.Nat.{_≤_, _<_};
 ghost use lib.ListN.{length, drop};
@@ -16,7 +17,7 @@ ghost use Rattle.records.specs.Answers.{countsOf};
 ghost use Rattle.reader.specs.Answers.{TreeArrays, sheetSays, TreesLast};
 
 // The counts and where the first tree record stands, or the refusal number.
-pub enum Sheet {
+pub enum Outcome {
     Read(Counts, usize),
     Refused(u32),
 }
@@ -33,7 +34,7 @@ fn read_body(
     order: &mut [u8],
     parents: &mut [u8],
     uplinks: &mut [u16],
-) -> Sheet
+) -> Outcome
     requires { ⌜ (5 ≤ length (now s)) × (0 < c .nodes) × (c .nodes ≤ 256) × (c .links ≤ 2048) ⌝ }
     requires { ⌜ (length (now firsts) ≡ 2048) × (length (now seconds) ≡ 2048) × (length (now weights) ≡ 2048) ⌝ }
     requires { ⌜ TreeArrays (now members) (now work) (now order) (now parents) (now uplinks) ⌝ }
@@ -44,7 +45,7 @@ fn read_body(
     let nodes = c.nodes;
     let links = c.links;
     let trees = c.trees;
-    match read_links(s, 5, nodes, links, firsts, seconds, weights) {
+    match read_links(s, HEADER_LENGTH, nodes, links, firsts, seconds, weights) {
         Step::End(at) => match read_trees(
             s,
             at,
@@ -61,18 +62,21 @@ fn read_body(
         ) {
             Step::End(end) => {
                 if end < s.len() {
-                    Sheet::Refused(BYTES_LEFT)
+                    Outcome::Refused(refusals::BYTES_LEFT)
                 } else {
-                    Sheet::Read(c, at)
+                    Outcome::Read(c, at)
                 }
             }
-            Step::Refused(n) => Sheet::Refused(n),
+            Step::Refused(n) => Outcome::Refused(n),
         },
-        Step::Refused(n) => Sheet::Refused(n),
+        Step::Refused(n) => Outcome::Refused(n),
     }
 }
 
-// Reads the sheet into `firsts`, `seconds` and `weights`. The other arrays are work space; of `work`, the first 256 numbers.
+// Reads a sheet: each link's first end, second end and weight into the arrays, which hold 2,048, and the counts and the position of the
+// first tree record as the answer; or the number of the first refusal. The other arrays, of 256, are work space; of `work`, which may
+// be longer, only the first 256 numbers are used.
+// Cost: one pass over the bytes and one over the bits of each link map, and for each tree at most its members times its nodes.
 pub fn read_sheet(
     s: &[u8],
     firsts: &mut [u8],
@@ -83,7 +87,7 @@ pub fn read_sheet(
     order: &mut [u8],
     parents: &mut [u8],
     uplinks: &mut [u16],
-) -> Sheet
+) -> Outcome
     requires { ⌜ (length (now firsts) ≡ 2048) × (length (now seconds) ≡ 2048) × (length (now weights) ≡ 2048) ⌝ }
     requires { ⌜ TreeArrays (now members) (now work) (now order) (now parents) (now uplinks) ⌝ }
     ensures { λ r. ⌜ sheetSays (now (s .entry)) (now (firsts .exit)) (now (seconds .exit)) (now (weights .exit)) r ≡ decode base (now (s .entry)) ⌝ }
@@ -103,6 +107,6 @@ pub fn read_sheet(
             parents,
             uplinks,
         ),
-        Header::Refused(n) => Sheet::Refused(n),
+        Header::Refused(n) => Outcome::Refused(n),
     }
 }

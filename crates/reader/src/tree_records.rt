@@ -3,7 +3,7 @@ use records::Step;
 use records::maps::list_members;
 use records::maps::ones;
 use records::maps::stray_bit;
-use records::refusals::*;
+use records::refusals;
 ghost use mathlib.Core.Path.{_≡_};
 ghost use mathlib.Core.List.{[]};
 ghost use Prim.Native.Nat.{_+_, _-_, _*_, _≤_, _<_};
@@ -15,7 +15,7 @@ ghost use Rattle.sheet.specs.Bytes.{mapBit};
 ghost use Rattle.sheet.specs.Reading.{firstFailing, records};
 ghost use Rattle.sheet.specs.Sheet.{mapLength, treeLength, treeIn, mapChecks, treeRecord};
 ghost use Rattle.records.specs.Answers.{stepSays, EndsAt};
-ghost use Rattle.reader.specs.Answers.{TreeArrays, PlantedTree, treesFrom};
+ghost use Rattle.reader.specs.Answers.{TreeArrays, ReadyTree, treesFrom};
 
 // The refusal number of a map's bits, 0 where they are not refused.
 fn map_refusal(map: &[u8], nodes: usize, links: usize) -> u32
@@ -23,10 +23,10 @@ fn map_refusal(map: &[u8], nodes: usize, links: usize) -> u32
     ensures { λ r. ⌜ r ≡ firstFailing (mapChecks nodes links (now (map .entry))) ⌝ }
 {
     if stray_bit(map, links) {
-        return STRAY_BIT;
+        return refusals::STRAY_BIT;
     }
     if ones(map) != nodes - 1 {
-        return MEMBER_COUNT;
+        return refusals::MEMBER_COUNT;
     }
     0
 }
@@ -49,7 +49,7 @@ pub fn grow_tree(
     requires { ⌜ TreeArrays (now members) (now work) (now order) (now parents) (now uplinks) ⌝ }
     ensures { λ r. ⌜ ((net : Network) (t : Tree) → Held net (now (firsts .entry)) (now (seconds .entry)) nodes → linkCount net ≡ links
         → t .members ≡ table links (mapBit (now (map .entry)))
-        → PlantedTree net t (now (members .exit)) (now (order .exit)) (now (parents .exit)) (now (uplinks .exit)) r) ⌝ }
+        → ReadyTree net t (now (members .exit)) (now (order .exit)) (now (parents .exit)) (now (uplinks .exit)) r) ⌝ }
     ensures { λ _. ⌜ drop 256 (now (work .exit)) ≡ drop 256 (now (work .entry)) ⌝ }
 {
     let count = list_members(map, links, members);
@@ -90,7 +90,7 @@ pub fn read_tree(
 {
     let size = (links + 7) / 8;
     if s.len() - at < 4 + size {
-        return Step::Refused(CUT_OFF_TREE);
+        return Step::Refused(refusals::CUT_OFF_TREE);
     }
     let map_at = at + 4;
     let end = map_at + size;
@@ -113,7 +113,7 @@ pub fn read_tree(
     ) {
         Step::End(end)
     } else {
-        Step::Refused(NOT_JOINED)
+        Step::Refused(refusals::NOT_JOINED)
     }
 }
 

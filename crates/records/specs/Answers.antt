@@ -65,7 +65,7 @@ abbrev pub linkOf : link.Link → Link
 linkOf l = record { first = l .first; second = l .second; weight = l .weight }
 
 abbrev pub fieldsSay : fields.Fields → ℕ × ℕ
-fieldsSay (fields-are.Bytes n) = (0, n)
+fieldsSay (fields-are.Length n) = (0, n)
 fieldsSay fields-are.Refused = (8, 0)
 
 abbrev pub fieldsOf : ℕ → ℕ × ℕ

@@ -1,6 +1,7 @@
 // The header: how many nodes, links and trees there are.
 use crate::bytes::two;
-use crate::refusals::*;
+use crate::limits::*;
+use crate::refusals;
 ghost use mathlib.Core.Path.{_≡_};
 ghost use Rattle.sheet.specs.Reading.{firstFailing};
 ghost use Rattle.sheet.specs.Sheet.{countChecks, headerRecord};
@@ -22,13 +23,13 @@ fn count_refusal(c: Counts) -> u32
     ensures { λ r. ⌜ r ≡ firstFailing (countChecks (countsOf c)) ⌝ }
 {
     if c.nodes < LEAST_NODES || MOST_NODES < c.nodes {
-        return NODE_COUNT;
+        return refusals::NODE_COUNT;
     }
     if c.links < c.nodes - 1 || MOST_LINKS < c.links {
-        return LINK_COUNT;
+        return refusals::LINK_COUNT;
     }
     if c.trees == 0 || MOST_TREES < c.trees {
-        return TREE_COUNT;
+        return refusals::TREE_COUNT;
     }
     0
 }
@@ -37,8 +38,8 @@ fn count_refusal(c: Counts) -> u32
 pub fn read_header(s: &[u8]) -> Header
     ensures { λ r. ⌜ headerSays (now (s .entry)) r ≡ headerRecord (now (s .entry)) ⌝ }
 {
-    if s.len() < 5 {
-        return Header::Refused(SHORT_HEADER);
+    if s.len() < HEADER_LENGTH {
+        return Header::Refused(refusals::SHORT_HEADER);
     }
     let c = Counts {
         nodes: two(s, 0),

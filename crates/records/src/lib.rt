@@ -1,6 +1,7 @@
-// Reads the records of a serialised network: the header, the link records and the link maps of trees. Each function reads at a
-// position of the sheet and answers with the position behind what it read, or with the number of the first refusal.
-pub mod refusals; // the refusal numbers and the limits behind them
+// Reads the records of a serialised network: the header, the link records and the link maps of trees. A record is read at a position
+// of the sheet; the answer is the value and the position behind it, or the number of the first refusal.
+pub mod refusals; // document 01's refusal numbers
+pub mod limits; // document 01's limits
 pub mod bytes; // numbers of two and four bytes
 pub mod header; // the three counts
 pub mod links; // link records

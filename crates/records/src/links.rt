@@ -2,7 +2,8 @@
 use crate::Step;
 use crate::bytes::four;
 use crate::bytes::two;
-use crate::refusals::*;
+use crate::limits::*;
+use crate::refusals;
 ghost use mathlib.Core.Path.{_≡_};
 ghost use mathlib.Core.Bool.{cond};
 ghost use mathlib.Core.List.{[]};
@@ -22,7 +23,7 @@ pub struct Link {
 
 // The bytes of the fields behind a map byte, or that the map byte is refused.
 pub enum Fields {
-    Bytes(usize),
+    Length(usize),
     Refused,
 }
 
@@ -37,11 +38,11 @@ fn field_bytes(m: u8) -> Fields
     ensures { λ r. ⌜ fieldsSay r ≡ fieldsOf m ⌝ }
 {
     match m {
-        0 => Fields::Bytes(0),
-        1 | 2 => Fields::Bytes(2),
-        3 | 4 => Fields::Bytes(4),
-        5 | 6 => Fields::Bytes(6),
-        7 => Fields::Bytes(8),
+        0 => Fields::Length(0),
+        1 | 2 => Fields::Length(2),
+        3 | 4 => Fields::Length(4),
+        5 | 6 => Fields::Length(6),
+        7 => Fields::Length(8),
         8..=255 => Fields::Refused,
     }
 }
@@ -53,20 +54,20 @@ fn record_end(s: &[u8], at: usize, start: bool) -> Step
     ensures { λ r. ⌜ EndsAt (at + recordLength base (drop at (now (s .entry)))) (now (s .entry)) r ⌝ }
 {
     if at == s.len() {
-        return Step::Refused(NO_MAP_BYTE);
+        return Step::Refused(refusals::NO_MAP_BYTE);
     }
     let m = s[at];
-    if m != 7 && start {
-        return Step::Refused(MAP_BYTE);
+    if m != ALL_FIELDS && start {
+        return Step::Refused(refusals::MAP_BYTE);
     }
     match field_bytes(m) {
-        Fields::Bytes(n) => {
+        Fields::Length(n) => {
             if s.len() - at - 1 < n {
-                return Step::Refused(CUT_OFF_FIELD);
+                return Step::Refused(refusals::CUT_OFF_FIELD);
             }
             Step::End(at + 1 + n)
         }
-        Fields::Refused => Step::Refused(MAP_BYTE),
+        Fields::Refused => Step::Refused(refusals::MAP_BYTE),
     }
 }
 
@@ -107,16 +108,16 @@ fn link_refusal(nodes: usize, l: Link) -> u32
     ensures { λ r. ⌜ r ≡ firstFailing (valueChecks base nodes (linkOf l)) ⌝ }
 {
     if nodes <= l.first || nodes <= l.second || l.first == l.second {
-        return LINK_ENDS;
+        return refusals::LINK_ENDS;
     }
     if MOST_WEIGHT < l.weight {
-        return LINK_WEIGHT;
+        return refusals::LINK_WEIGHT;
     }
     0
 }
 
 // The link of the record at a position, where `before` is the link before it.
-pub fn read_link(s: &[u8], at: usize, nodes: usize, start: bool, before: Link) -> Record
+fn read_link(s: &[u8], at: usize, nodes: usize, start: bool, before: Link) -> Record
     requires { ⌜ at ≤ length (now s) ⌝ }
     ensures { λ r. ⌜ linkSays (now (s .entry)) r ≡ linkRecord base nodes start (linkOf before) (drop at (now (s .entry))) ⌝ }
     ensures { λ r. ⌜ LinkInside (now (s .entry)) r ⌝ }

@@ -1,38 +1,43 @@
-// Document 01's refusal numbers of a sheet, and the limits behind them.
+// Document 01's refusal numbers of a sheet.
+
+// The sheet has fewer than 5 bytes.
 pub const SHORT_HEADER: u32 = 3;
 
+// The node count is below 2 or above 256.
 pub const NODE_COUNT: u32 = 4;
 
+// The link count is below the node count less 1, or above 2,048.
 pub const LINK_COUNT: u32 = 5;
 
+// The tree count is 0 or above 32.
 pub const TREE_COUNT: u32 = 6;
 
+// No map byte is left for a link.
 pub const NO_MAP_BYTE: u32 = 7;
 
+// A map byte exceeds 7, or link 0's map byte is not 7.
 pub const MAP_BYTE: u32 = 8;
 
+// The sheet ends before the last byte of a field whose bit stands.
 pub const CUT_OFF_FIELD: u32 = 9;
 
+// An end is not below the node count, or both ends are equal.
 pub const LINK_ENDS: u32 = 10;
 
+// A weight exceeds 1,000,000.
 pub const LINK_WEIGHT: u32 = 11;
 
+// The sheet ends inside or before a tree record.
 pub const CUT_OFF_TREE: u32 = 12;
 
+// A link map has a bit set from the link count up.
 pub const STRAY_BIT: u32 = 13;
 
+// The ones in a link map are not the node count less 1.
 pub const MEMBER_COUNT: u32 = 14;
 
+// The member links do not join every node to node 0.
 pub const NOT_JOINED: u32 = 15;
 
+// Bytes follow the last tree.
 pub const BYTES_LEFT: u32 = 16;
-
-pub const LEAST_NODES: usize = 2;
-
-pub const MOST_NODES: usize = 256;
-
-pub const MOST_LINKS: usize = 2048;
-
-pub const MOST_TREES: usize = 32;
-
-pub const MOST_WEIGHT: u32 = 1000000;

@@ -21,38 +21,38 @@ use Rattle.cuts.proofs.SumLaws.{all-suc, allTo-at, sum-congr, sum-const, sum-si
 use Rattle.cuts.proofs.Joined.{turned, meets-in, joined-within}
 use Rattle.cuts.proofs.Handles.{member-in, member-of}
 use Rattle.trees.specs.Order.{entry, Hung, Tied, Listed, Ordered}
-use Rattle.trees.specs.Growing.{marked, nextIn, Posed, GrownTree}
+use Rattle.trees.specs.Growing.{marked, nextIn, Given, GrownTree}
 use Rattle.trees.specs.declared.Hanging.{Hanging}
 use Rattle.trees.specs.declared.Next.{Next}
 use Rattle.trees.specs.declared.Next.the-variants.{Hangs, Nothing}
-use Rattle.trees.proofs.NextLaws.{EndsAt, nextIn-hangs, nextIn-nothing}
+use Rattle.trees.proofs.NextLaws.{Joining, nextIn-hangs, nextIn-nothing}
 use Rattle.trees.proofs.OrderLaws.{ordered-spans, lower-end}
 
 -- the order while it is made: the nodes marked in `reached` are those of the first `count` positions
-pub record Growing (net : Network) (t : Tree) (reached order parents links : List ℕ) (count : ℕ) : Type 0 where
+pub record Growing (net : Network) (t : Tree) (reached order parents uplinks : List ℕ) (count : ℕ) : Type 0 where
   pub reached-room : net .nodes ≤ length reached
   pub order-room : net .nodes ≤ length order
   pub parents-room : net .nodes ≤ length parents
-  pub links-room : net .nodes ≤ length links
+  pub uplinks-room : net .nodes ≤ length uplinks
   pub some : 0 < count
   pub counted : countTo (net .nodes) (marked reached) ≡ count
-  pub listed : Listed net t order parents links count
+  pub listed : Listed net t order parents uplinks count
   pub holds : (i : ℕ) → i < count → marked reached (entry order i) ≡ true
   pub found : (x : ℕ) → x < net .nodes → marked reached x ≡ true → (i : ℕ) × (i < count) × (entry order i ≡ x)
 
 -- no member has exactly one end reached
-abbrev pub Quiet : Network → Tree → List ℕ → Type 0
+abbrev Quiet : Network → Tree → List ℕ → Type 0
 Quiet net t reached = (k : ℕ) → Member net t k → marked reached (linkAt net k .first) ≡ marked reached (linkAt net k .second)
 
 module _ {net : Network} {t : Tree} (l : Linked net) where
   -- the root alone
-  pub growing-start : (reached order parents links : List ℕ) → net .nodes ≤ length reached → net .nodes ≤ length order → net .nodes ≤ length parents
-      → net .nodes ≤ length links → ((x : ℕ) → x < net .nodes → entry reached x ≡ 0) → Growing net t (set reached 0 1) (set order 0 0) parents links 1
-  growing-start reached order parents links rs os ps ls f = record {
+  pub growing-start : (reached order parents uplinks : List ℕ) → net .nodes ≤ length reached → net .nodes ≤ length order → net .nodes ≤ length parents
+      → net .nodes ≤ length uplinks → ((x : ℕ) → x < net .nodes → entry reached x ≡ 0) → Growing net t (set reached 0 1) (set order 0 0) parents uplinks 1
+  growing-start reached order parents uplinks rs os ps ls f = record {
     reached-room = rw (length-set reached 0 1) rs;
     order-room = rw (length-set order 0 0) os;
     parents-room = ps;
-    links-room = ls;
+    uplinks-room = ls;
     some = omega arith;
     counted =
         sum-congr (net .nodes) _ (λ x. only (eqb 0 x) 1) (λ x b. ap (λ (c : Bool). only c 1) (is-root x b (truth (eqb x 0)) ∙ eqb-comm x 0))
@@ -77,7 +77,7 @@ module _ {net : Network} {t : Tree} (l : Linked net) where
       is-root x b (inl q) = let z = l .rooted in rw (q, eqb-true x 0 q, getD-set-same reached 0 1 0 (omega arith))
       is-root x b (inr q) = rw (q, getD-set-other reached 0 x 1 0 (eqb-false x 0 q), f x b)
 
-  module _ {reached order parents links : List ℕ} {count : ℕ} (w : Growing net t reached order parents links count) where
+  module _ {reached order parents uplinks : List ℕ} {count : ℕ} (w : Growing net t reached order parents uplinks count) where
     -- one more node x, by the member k
     module _ {k x p : ℕ} (h : Hung net t k x p) (out : marked reached x ≡ false) (into : marked reached p ≡ true) where
       x-in : x < net .nodes
@@ -107,7 +107,7 @@ module _ {net : Network} {t : Tree} (l : Linked net) where
       mark-old : (y : ℕ) → (y ≡ x → ⊥) → marked (set reached x 1) y ≡ marked reached y
       mark-old y n = ap (λ (a : ℕ). eqb a 1) (getD-set-other reached x y 1 0 n)
 
-      tied-old : (i : ℕ) → 0 < i → i < count → Tied net t (set order count x) (set parents x p) (set links x k) i
+      tied-old : (i : ℕ) → 0 < i → i < count → Tied net t (set order count x) (set parents x p) (set uplinks x k) i
       tied-old i z b =
           let d = w .listed .tied i z b in
           let c : d .at < i = d .before in
@@ -115,15 +115,15 @@ module _ {net : Network} {t : Tree} (l : Linked net) where
             at = d .at;
             before = d .before;
             above = old (d .at) (omega arith) ∙ d .above ∙ sym (other parents p i b) ∙ ap (entry (set parents x p)) (sym (old i b));
-            hung = rw (old i b, other parents p i b, other links k i b) (d .hung);
+            hung = rw (old i b, other parents p i b, other uplinks k i b) (d .hung);
           }
 
-      tied-new : Tied net t (set order count x) (set parents x p) (set links x k) count
+      tied-new : Tied net t (set order count x) (set parents x p) (set uplinks x k) count
       tied-new =
           let d = w .found p p-in into in
           let b = x-in in
           let pa : entry (set parents x p) x ≡ p = getD-set-same parents x p 0 (let a = w .parents-room in omega arith) in
-          let la : entry (set links x k) x ≡ k = getD-set-same links x k 0 (let a = w .links-room in omega arith) in
+          let la : entry (set uplinks x k) x ≡ k = getD-set-same uplinks x k 0 (let a = w .uplinks-room in omega arith) in
           record {
             at = d .0;
             before = d .1;
@@ -131,7 +131,7 @@ module _ {net : Network} {t : Tree} (l : Linked net) where
             hung = rw (new, pa, la) h;
           }
 
-      listed-more : Listed net t (set order count x) (set parents x p) (set links x k) (suc count)
+      listed-more : Listed net t (set order count x) (set parents x p) (set uplinks x k) (suc count)
       listed-more = record {
         start = old 0 (w .some) ∙ w .listed .start;
         within = all-suc (λ i. entry (set order count x) i < net .nodes) count (λ i b. rw (old i b) (w .listed .within i b)) (rw new x-in);
@@ -148,16 +148,16 @@ module _ {net : Network} {t : Tree} (l : Linked net) where
             c)
             i
             b;
-        tied = λ i z b. all-suc (λ i. 0 < i → Tied net t (set order count x) (set parents x p) (set links x k) i) count
+        tied = λ i z b. all-suc (λ i. 0 < i → Tied net t (set order count x) (set parents x p) (set uplinks x k) i) count
             (λ i b z. tied-old i z b) (λ z. tied-new) i b z;
       }
 
-      pub growing-step : Growing net t (set reached x 1) (set order count x) (set parents x p) (set links x k) (suc count)
+      growing-step : Growing net t (set reached x 1) (set order count x) (set parents x p) (set uplinks x k) (suc count)
       growing-step = record {
         reached-room = rw (length-set reached x 1) (w .reached-room);
         order-room = rw (length-set order count x) (w .order-room);
         parents-room = rw (length-set parents x p) (w .parents-room);
-        links-room = rw (length-set links x k) (w .links-room);
+        uplinks-room = rw (length-set uplinks x k) (w .uplinks-room);
         some = omega arith;
         counted = count-more (net .nodes) (marked reached) (marked (set reached x 1)) x x-in out mark-new (λ y _ n. mark-old y n) ∙ ap suc (w .counted);
         listed = listed-more;
@@ -174,7 +174,7 @@ module _ {net : Network} {t : Tree} (l : Linked net) where
               let d = w .found y b (sym (mark-old y (λ z. eqb-false x y q (sym z))) ∙ i) in
               (d .0, omega (arith, d .1), old (d .0) (d .1) ∙ d .2)
 
-    pub growing-stuck : Quiet net t reached → count < net .nodes → spans net t ≡ false
+    growing-stuck : Quiet net t reached → count < net .nodes → spans net t ≡ false
     unfolding spans
     growing-stuck h b = go (truth (spans net t))
       where
@@ -189,10 +189,10 @@ module _ {net : Network} {t : Tree} (l : Linked net) where
             absurd (omega arith)
 
 -- all nodes
-pub growing-done : {net : Network} {t : Tree} {reached order parents links : List ℕ} {count : ℕ} → Growing net t reached order parents links count
-    → count ≡ net .nodes → Ordered net t order parents links
-growing-done {net} {t} {reached} {order} {parents} {links} {count} w e = record {
-  listed = subst (λ (c : ℕ). Listed net t order parents links c) e (w .listed);
+growing-done : {net : Network} {t : Tree} {reached order parents uplinks : List ℕ} {count : ℕ} → Growing net t reached order parents uplinks count
+    → count ≡ net .nodes → Ordered net t order parents uplinks
+growing-done {net} {t} {reached} {order} {parents} {uplinks} {count} w e = record {
+  listed = subst (λ (c : ℕ). Listed net t order parents uplinks c) e (w .listed);
   every = λ x b. let d = w .found x b (all x b (truth (marked reached x))) in (d .0, omega (arith, d .1), d .2);
 }
   where
@@ -202,21 +202,21 @@ growing-done {net} {t} {reached} {order} {parents} {links} {count} w e = record 
 
 -- ---- with the network in arrays
 
-module _ {net : Network} {t : Tree} {fs ss ms : List ℕ} {count nodes : ℕ} (p : Posed net t fs ss ms count nodes)
-    {reached order parents links : List ℕ} {found : ℕ} (w : Growing net t reached order parents links found) where
-  pub posed-step : {r : Next} {h : Hanging} → r ≡ nextIn reached fs ss (take count ms) → r ≡ Hangs h
-      → Growing net t (set reached (h .node) 1) (set order found (h .node)) (set parents (h .node) (h .parent)) (set links (h .node) (h .link)) (found + 1)
-  posed-step {h = h} d e =
+module _ {net : Network} {t : Tree} {fs ss ms : List ℕ} {count nodes : ℕ} (p : Given net t fs ss ms count nodes)
+    {reached order parents uplinks : List ℕ} {found : ℕ} (w : Growing net t reached order parents uplinks found) where
+  pub given-step : {r : Next} {h : Hanging} → r ≡ nextIn reached fs ss (take count ms) → r ≡ Hangs h
+      → Growing net t (set reached (h .node) 1) (set order found (h .node)) (set parents (h .node) (h .parent)) (set uplinks (h .node) (h .link)) (found + 1)
+  given-step {h = h} d e =
       let n = nextIn-hangs reached fs ss (take count ms) (sym d ∙ e) in
       let m = member-of net t (subst (List·Memᴰ (h .link)) (p .members) (n .listed)) in
       rw add-one (growing-step (p .held .linked) w (record { member = m; meets = meets (m .is-link) (n .ends) }) (n .out) (n .into))
     where
-      meets : {k x y : ℕ} → k < linkCount net → EndsAt fs ss k x y → Meets net k x y
+      meets : {k x y : ℕ} → k < linkCount net → Joining fs ss k x y → Meets net k x y
       meets {k} b (inl q) = forth (p .held .firsts k b ∙ q .0) (p .held .seconds k b ∙ q .1)
       meets {k} b (inr q) = back (p .held .seconds k b ∙ q .0) (p .held .firsts k b ∙ q .1)
 
-  pub posed-stuck : {r : Next} → r ≡ nextIn reached fs ss (take count ms) → r ≡ Nothing → found < nodes → GrownTree net t order parents links false
-  posed-stuck d e b = record {
+  pub given-stuck : {r : Next} → r ≡ nextIn reached fs ss (take count ms) → r ≡ Nothing → found < nodes → GrownTree net t order parents uplinks false
+  given-stuck d e b = record {
     joined = sym (growing-stuck (p .held .linked) w quiet (let q = p .held .sized in omega arith));
     ordered = λ q. clash q refl;
     owned = λ q. clash q refl;
@@ -227,8 +227,8 @@ module _ {net : Network} {t : Tree} {fs ss ms : List ℕ} {count nodes : ℕ} (p
           rw (p .held .firsts k (m .is-link), p .held .seconds k (m .is-link))
           (nextIn-nothing reached fs ss (take count ms) (sym d ∙ e) k (subst (List·Memᴰ k) (sym (p .members)) (member-in net t m)))
 
-  pub posed-done : found ≡ nodes → GrownTree net t order parents links true
-  posed-done e =
+  pub given-done : found ≡ nodes → GrownTree net t order parents uplinks true
+  given-done e =
       let o = growing-done w (e ∙ sym (p .held .sized)) in
       record {
         joined = sym (ordered-spans o (p .held .linked));

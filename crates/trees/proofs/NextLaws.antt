@@ -15,13 +15,13 @@ use Rattle.trees.specs.declared.Hanging.{Hanging}
 use Rattle.trees.specs.declared.Next.the-variants.{Hangs, Nothing}
 
 -- link k, whose ends stand in fs and ss, has the ends x and p
-abbrev pub EndsAt : List ℕ → List ℕ → ℕ → ℕ → ℕ → Type 0
-EndsAt fs ss k x p = ((entry fs k ≡ x) × (entry ss k ≡ p)) ⊎ ((entry ss k ≡ x) × (entry fs k ≡ p))
+abbrev pub Joining : List ℕ → List ℕ → ℕ → ℕ → ℕ → Type 0
+Joining fs ss k x p = ((entry fs k ≡ x) × (entry ss k ≡ p)) ⊎ ((entry ss k ≡ x) × (entry fs k ≡ p))
 
 -- h hangs by a link of ks, its node not marked and its parent marked
 pub record HangsIn (r fs ss ks : List ℕ) (h : Hanging) : Type 0 where
   pub listed : List·Memᴰ (h .link) ks
-  pub ends : EndsAt fs ss (h .link) (h .node) (h .parent)
+  pub ends : Joining fs ss (h .link) (h .node) (h .parent)
   pub out : marked r (h .node) ≡ false
   pub into : marked r (h .parent) ≡ true
 

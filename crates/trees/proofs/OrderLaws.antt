@@ -21,23 +21,23 @@ use Rattle.cuts.proofs.Joined.{joined-root, joined-lead}
 use Rattle.trees.specs.Order.{entry, Hung, Ordered, Lower, Owned}
 
 -- the place in the order of a node other than the root, and of its parent
-pub record Spot (net : Network) (t : Tree) (order parents links : List ℕ) (x : ℕ) : Type 0 where
+pub record Spot (net : Network) (t : Tree) (order parents uplinks : List ℕ) (x : ℕ) : Type 0 where
   pub at : ℕ
   pub under : at < net .nodes
   pub is : entry order at ≡ x
   pub up : ℕ
   pub up-before : up < at
   pub up-is : entry order up ≡ entry parents x
-  pub hung : Hung net t (entry links x) x (entry parents x)
+  pub hung : Hung net t (entry uplinks x) x (entry parents x)
 
-module _ {net : Network} {t : Tree} {order parents links : List ℕ} (o : Ordered net t order parents links) where
+module _ {net : Network} {t : Tree} {order parents uplinks : List ℕ} (o : Ordered net t order parents uplinks) where
   pub not-root : (i : ℕ) → 0 < i → i < net .nodes → entry order i ≡ 0 → ⊥
   not-root i z b q = let e = o .listed .once i 0 b (omega arith) (q ∙ sym (o .listed .start)) in omega arith
 
-  pub spot : (x : ℕ) → x < net .nodes → (x ≡ 0 → ⊥) → Spot net t order parents links x
+  pub spot : (x : ℕ) → x < net .nodes → (x ≡ 0 → ⊥) → Spot net t order parents uplinks x
   spot x b f = let d = o .every x b in from (d .0) (d .1) (d .2)
     where
-      from : (i : ℕ) → i < net .nodes → entry order i ≡ x → Spot net t order parents links x
+      from : (i : ℕ) → i < net .nodes → entry order i ≡ x → Spot net t order parents uplinks x
       from zero c e = absurd (f (sym e ∙ o .listed .start))
       from (suc i) c e =
           let d = o .listed .tied (suc i) (omega arith) c in
@@ -64,16 +64,16 @@ module _ {net : Network} {t : Tree} {order parents links : List ℕ} (o : Ordere
   unfolding spans
   ordered-spans l = allTo-all (net .nodes) _ (climb (λ x. flag (joined net (t .members)) x ≡ true) (joined-root net (t .members) l)
       (λ x b f r. let m = spot x b f .hung in joined-lead net (t .members) x b
-      (record { link = entry links x; far = entry parents x; is-link = m .member .is-link; is-chosen = m .member .is-set; meets = m .meets; inside = r })))
+      (record { link = entry uplinks x; far = entry parents x; is-link = m .member .is-link; is-chosen = m .member .is-set; meets = m .meets; inside = r })))
 
   -- each node but the root hangs by a link of its own
-  pub link-once : (x y : ℕ) → x < net .nodes → (x ≡ 0 → ⊥) → y < net .nodes → (y ≡ 0 → ⊥) → entry links x ≡ entry links y → x ≡ y
+  pub link-once : (x y : ℕ) → x < net .nodes → (x ≡ 0 → ⊥) → y < net .nodes → (y ≡ 0 → ⊥) → entry uplinks x ≡ entry uplinks y → x ≡ y
   link-once x y b f c g q = go (sx .hung .meets) (subst (λ (k : ℕ). Meets net k y (entry parents y)) (sym q) (sy .hung .meets))
     where
-      sx : Spot net t order parents links x
+      sx : Spot net t order parents uplinks x
       sx = spot x b f
 
-      sy : Spot net t order parents links y
+      sy : Spot net t order parents uplinks y
       sy = spot y c g
 
       turn : entry parents x ≡ y → entry parents y ≡ x → ⊥
@@ -86,27 +86,27 @@ module _ {net : Network} {t : Tree} {order parents links : List ℕ} (o : Ordere
           let v = o .listed .once (sy .up) (sx .at) (omega arith) bx (sy .up-is ∙ r ∙ sym (sx .is)) in
           omega arith
 
-      go : Meets net (entry links x) x (entry parents x) → Meets net (entry links x) y (entry parents y) → x ≡ y
+      go : Meets net (entry uplinks x) x (entry parents x) → Meets net (entry uplinks x) y (entry parents y) → x ≡ y
       go (forth m n) (forth m′ n′) = sym m ∙ m′
       go (forth m n) (back m′ n′) = absurd (turn (sym n ∙ m′) (sym n′ ∙ m))
       go (back m n) (forth m′ n′) = absurd (turn (sym n ∙ m′) (sym n′ ∙ m))
       go (back m n) (back m′ n′) = sym m ∙ m′
 
-  pub lower-once : {e u v : ℕ} → Lower net links e u → Lower net links e v → u ≡ v
+  pub lower-once : {e u v : ℕ} → Lower net uplinks e u → Lower net uplinks e v → u ≡ v
   lower-once {e} {u} {v} a b = link-once u v (a .under) (a .off) (b .under) (b .off) (a .is ∙ sym (b .is))
 
-  pub lower-member : {e v : ℕ} → Lower net links e v → Member net t e
+  pub lower-member : {e v : ℕ} → Lower net uplinks e v → Member net t e
   lower-member {e} {v} a = rw (a .is) at (spot v (a .under) (a .off) .hung .member)
 
   -- node x is the lower end of link k
   lowers : ℕ → ℕ → Bool
-  lowers k x = not (eqb 0 x) && eqb (entry links x) k
+  lowers k x = not (eqb 0 x) && eqb (entry uplinks x) k
 
-  lowers-is : (k x : ℕ) → x < net .nodes → lowers k x ≡ true → Lower net links k x
+  lowers-is : (k x : ℕ) → x < net .nodes → lowers k x ≡ true → Lower net uplinks k x
   unfolding lowers
   lowers-is k x b h =
       let p = and-eq-true-iff (not (eqb 0 x)) _ .0 h in
-      record { under = b; off = λ q. eqb-false 0 x (not-true (eqb 0 x) (p .0)) (sym q); is = eqb-true (entry links x) k (p .1) }
+      record { under = b; off = λ q. eqb-false 0 x (not-true (eqb 0 x) (p .0)) (sym q); is = eqb-true (entry uplinks x) k (p .1) }
 
   lowers-most : (k : ℕ) → countTo (net .nodes) (lowers k) ≤ only (flag (t .members) k) 1
   lowers-most k = go (truth (flag (t .members) k))
@@ -134,11 +134,11 @@ module _ {net : Network} {t : Tree} {order parents links : List ℕ} (o : Ordere
       at x b (inl q) =
           let r = sum-congr (linkCount net) (λ k. only (lowers k x) 1) (λ k. 0) (λ k _. rw q) in let s = sum-const (linkCount net) 0 in rw q (omega arith)
       at x b (inr q) =
-          let r = sum-congr (linkCount net) (λ k. only (lowers k x) 1) (λ k. only (eqb (entry links x) k) 1) (λ k _. rw q) in
-          let s = sum-single (linkCount net) (entry links x) (λ k. 1) (spot x b (λ e. eqb-false 0 x q (sym e)) .hung .member .is-link) in
+          let r = sum-congr (linkCount net) (λ k. only (lowers k x) 1) (λ k. only (eqb (entry uplinks x) k) 1) (λ k _. rw q) in
+          let s = sum-single (linkCount net) (entry uplinks x) (λ k. 1) (spot x b (λ e. eqb-false 0 x q (sym e)) .hung .member .is-link) in
           rw q (omega arith)
 
-  pub lower-end : 0 < net .nodes → memberCount net t ≡ net .nodes - 1 → Owned net t links
+  pub lower-end : 0 < net .nodes → memberCount net t ≡ net .nodes - 1 → Owned net t uplinks
   unfolding memberCount
   lower-end z c e m = from (count-one (net .nodes) (lowers e) one)
     where
@@ -148,5 +148,5 @@ module _ {net : Network} {t : Tree} {order parents links : List ℕ} (o : Ordere
           (let a = lowers-total z in omega arith) e (m .is-link)
           ∙ rw (m .is-set)
 
-      from : One (net .nodes) (lowers e) → (v : ℕ) × Lower net links e v × ((w : ℕ) → Lower net links e w → w ≡ v)
+      from : One (net .nodes) (lowers e) → (v : ℕ) × Lower net uplinks e v × ((w : ℕ) → Lower net uplinks e w → w ≡ v)
       from a = let l = lowers-is e (a .at) (a .under) (a .is (a .at) (a .under) ∙ eq-eqb (a .at) (a .at) refl) in (a .at, l, λ w k. lower-once k l)

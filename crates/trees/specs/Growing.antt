@@ -1,11 +1,12 @@
 -- Growing a tree from the root: what the functions of this crate answer and leave behind. Assumes nothing.
 --   marked r x                  node x is marked in the list r
 --   Within xs count m           the first `count` numbers of xs are below m
+--   hanging x p k               the answer that node x hangs by the link k on node p
 --   nextIn r fs ss ks           of the links ks, whose ends stand in fs and ss, the first with exactly one end marked in r: the
 --                               end that is not, as the node that hangs by the link on the other
 --   Held net fs ss n            the arrays hold the network: its links' first ends in fs, their second ends in ss, all of them nodes,
 --                               of which there are n, the root among them
---   Posed net t fs ss ms c n    so they do, and the first c numbers of ms are the tree's members, rising
+--   Given net t fs ss ms c n    so they do, and the first c numbers of ms are the tree's members, rising
 --   GrownTree net t o p l all   what growing the tree gives: `all` says whether its members join every node to the root; if so,
 --                               o, p and l order its nodes, and a tree with one member fewer than nodes has each member as the
 --                               parent link of exactly one node
@@ -44,11 +45,11 @@ pub record Held (net : Network) (fs ss : List ℕ) (nodes : ℕ) : Type 0 where
   pub firsts : (k : ℕ) → k < linkCount net → linkAt net k .first ≡ entry fs k
   pub seconds : (k : ℕ) → k < linkCount net → linkAt net k .second ≡ entry ss k
 
-pub record Posed (net : Network) (t : Tree) (fs ss ms : List ℕ) (count nodes : ℕ) : Type 0 where
+pub record Given (net : Network) (t : Tree) (fs ss ms : List ℕ) (count nodes : ℕ) : Type 0 where
   pub held : Held net fs ss nodes
   pub members : take count ms ≡ memberLinks net t
 
-pub record GrownTree (net : Network) (t : Tree) (order parents links : List ℕ) (all : Bool) : Type 0 where
+pub record GrownTree (net : Network) (t : Tree) (order parents uplinks : List ℕ) (all : Bool) : Type 0 where
   pub joined : all ≡ spans net t
-  pub ordered : all ≡ true → Ordered net t order parents links
-  pub owned : all ≡ true → memberCount net t ≡ net .nodes - 1 → Owned net t links
+  pub ordered : all ≡ true → Ordered net t order parents uplinks
+  pub owned : all ≡ true → memberCount net t ≡ net .nodes - 1 → Owned net t uplinks

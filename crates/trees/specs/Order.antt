@@ -1,5 +1,5 @@
 -- A tree's nodes in an order that starts at the root and has each node behind its parent. The order is a list of nodes; parents and
--- parent links are lists with a number for each node. Assumes nothing.
+-- parent links, `uplinks`, are lists with a number for each node. Assumes nothing.
 --   entry l i                     number i of a list, 0 past its end
 --   Hung net t k x p              node x hangs by the member k on node p
 --   Tied net t o p l i            the node at position i of the order o hangs by its link, in l, on its parent, in p, which stands
@@ -23,26 +23,26 @@ pub record Hung (net : Network) (t : Tree) (k x p : ℕ) : Type 0 where
   pub member : Member net t k
   pub meets : Meets net k x p
 
-pub record Tied (net : Network) (t : Tree) (order parents links : List ℕ) (i : ℕ) : Type 0 where
+pub record Tied (net : Network) (t : Tree) (order parents uplinks : List ℕ) (i : ℕ) : Type 0 where
   pub at : ℕ
   pub before : at < i
   pub above : entry order at ≡ entry parents (entry order i)
-  pub hung : Hung net t (entry links (entry order i)) (entry order i) (entry parents (entry order i))
+  pub hung : Hung net t (entry uplinks (entry order i)) (entry order i) (entry parents (entry order i))
 
-pub record Listed (net : Network) (t : Tree) (order parents links : List ℕ) (count : ℕ) : Type 0 where
+pub record Listed (net : Network) (t : Tree) (order parents uplinks : List ℕ) (count : ℕ) : Type 0 where
   pub start : entry order 0 ≡ 0
   pub within : (i : ℕ) → i < count → entry order i < net .nodes
   pub once : (i j : ℕ) → i < count → j < count → entry order i ≡ entry order j → i ≡ j
-  pub tied : (i : ℕ) → 0 < i → i < count → Tied net t order parents links i
+  pub tied : (i : ℕ) → 0 < i → i < count → Tied net t order parents uplinks i
 
-pub record Ordered (net : Network) (t : Tree) (order parents links : List ℕ) : Type 0 where
-  pub listed : Listed net t order parents links (net .nodes)
+pub record Ordered (net : Network) (t : Tree) (order parents uplinks : List ℕ) : Type 0 where
+  pub listed : Listed net t order parents uplinks (net .nodes)
   pub every : (x : ℕ) → x < net .nodes → (i : ℕ) × (i < net .nodes) × (entry order i ≡ x)
 
-pub record Lower (net : Network) (links : List ℕ) (e v : ℕ) : Type 0 where
+pub record Lower (net : Network) (uplinks : List ℕ) (e v : ℕ) : Type 0 where
   pub under : v < net .nodes
   pub off : v ≡ 0 → ⊥
-  pub is : entry links v ≡ e
+  pub is : entry uplinks v ≡ e
 
 abbrev pub Owned : Network → Tree → List ℕ → Type 0
-Owned net t links = (e : ℕ) → Member net t e → (v : ℕ) × Lower net links e v × ((w : ℕ) → Lower net links e w → w ≡ v)
+Owned net t uplinks = (e : ℕ) → Member net t e → (v : ℕ) × Lower net uplinks e v × ((w : ℕ) → Lower net uplinks e w → w ≡ v)

@@ -6,7 +6,7 @@ ghost use mathlib.Core.Path.{_≡_};
 ghost use Prim.Native.Nat.{_≤_, _<_};
 ghost use lib.ListN.{length, take, replicate};
 ghost use Rattle.cuts.specs.Network.{Network, Tree};
-ghost use Rattle.trees.specs.Growing.{Within, nextIn, Posed, GrownTree};
+ghost use Rattle.trees.specs.Growing.{Within, nextIn, Given, GrownTree};
 
 // A node that is not reached, the reached node that it hangs on, and the link between them.
 pub struct Hanging {
@@ -21,7 +21,7 @@ pub enum Next {
 }
 
 // Sets every number to 0.
-pub fn clear(part: &mut [u8])
+fn clear(part: &mut [u8])
     ensures { λ _. ⌜ now (part .exit) ≡ replicate (length (now (part .entry))) 0 ⌝ }
 {
     let mut i = 0;
@@ -32,13 +32,7 @@ pub fn clear(part: &mut [u8])
 }
 
 // The first member with exactly one end reached.
-pub fn next_node(
-    reached: &[u8],
-    firsts: &[u8],
-    seconds: &[u8],
-    members: &[u16],
-    count: usize,
-) -> Next
+fn next_node(reached: &[u8], firsts: &[u8], seconds: &[u8], members: &[u16], count: usize) -> Next
     requires { ⌜ (length (now reached) ≡ 256) × (count ≤ length (now members)) ⌝ }
     requires { ⌜ Within (now members) count (length (now firsts)) × Within (now members) count (length (now seconds)) ⌝ }
     ensures { λ r. ⌜ r ≡ nextIn (now (reached .entry)) (now (firsts .entry)) (now (seconds .entry)) (take count (now (members .entry))) ⌝ }
@@ -70,23 +64,23 @@ pub fn next_node(
     Next::Nothing
 }
 
-// Whether the members join every node to the root; if so, `order`, `parents` and `links` order the nodes. `reached` is work space.
+// Whether the members join every node to the root; if so, `order`, `parents` and `uplinks`, the parent links, order the nodes. `reached` is work space.
 pub fn grow(
     reached: &mut [u8],
     order: &mut [u8],
     parents: &mut [u8],
-    links: &mut [u16],
+    uplinks: &mut [u16],
     firsts: &[u8],
     seconds: &[u8],
     members: &[u16],
     count: usize,
     nodes: usize,
 ) -> bool
-    requires { ⌜ (length (now reached) ≡ 256) × (length (now order) ≡ 256) × (length (now parents) ≡ 256) × (length (now links) ≡ 256) ⌝ }
+    requires { ⌜ (length (now reached) ≡ 256) × (length (now order) ≡ 256) × (length (now parents) ≡ 256) × (length (now uplinks) ≡ 256) ⌝ }
     requires { ⌜ (0 < nodes) × (nodes ≤ 256) × (count ≤ length (now members)) ⌝ }
     requires { ⌜ Within (now members) count (length (now firsts)) × Within (now members) count (length (now seconds)) ⌝ }
-    ensures { λ r. ⌜ ((net : Network) (t : Tree) → Posed net t (now (firsts .entry)) (now (seconds .entry)) (now (members .entry)) count nodes
-        → GrownTree net t (now (order .exit)) (now (parents .exit)) (now (links .exit)) r) ⌝ }
+    ensures { λ r. ⌜ ((net : Network) (t : Tree) → Given net t (now (firsts .entry)) (now (seconds .entry)) (now (members .entry)) count nodes
+        → GrownTree net t (now (order .exit)) (now (parents .exit)) (now (uplinks .exit)) r) ⌝ }
 {
     clear(reached);
     reached[0] = 1;
@@ -99,7 +93,7 @@ pub fn grow(
                 reached[x as usize] = 1;
                 order[found] = x;
                 parents[x as usize] = h.parent;
-                links[x as usize] = h.link;
+                uplinks[x as usize] = h.link;
             }
             Next::Nothing => {
                 return false;

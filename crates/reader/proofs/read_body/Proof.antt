@@ -1,10 +1,9 @@
--- What the links' reading, the trees' reading and the end make of the sheet is what the definition makes of them, since the arrays hold
--- the network of the links that were read. Assumes nothing.
+-- `reader::read_body` meets its contract. What the links' reading, the trees' reading and the end make of the sheet is what the
+-- definition makes of them, since the arrays hold the network of the links that were read. Assumes nothing.
 use Prim.Native.Nat.{_+_, _*_}
 use mathlib.Core.Path.{_≡_, refl, sym, _∙_, subst}
 use mathlib.Core.List.{List, []}
 use native.Mathlib.Omega.{arith}
-use borrow.Author.Needs.{needs}
 use lib.ListN.{length, drop}
 use Rattle.cuts.specs.Network.{Link, Network}
 use Rattle.sheet.specs.Reading.{records}

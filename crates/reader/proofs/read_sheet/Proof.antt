@@ -1,7 +1,7 @@
--- The header is read as the definition reads it, and what follows is `read_body`'s. Assumes nothing.
-use mathlib.Core.Path.{_≡_, refl, sym, _∙_, subst}
+-- `reader::read_sheet` meets its contract. The header is read as the definition reads it, and what follows is `read_body`'s.
+-- Assumes nothing.
+use mathlib.Core.Path.{_≡_, refl, sym, subst}
 use native.Mathlib.Omega.{arith}
-use borrow.Author.Needs.{needs}
 use lib.ListN.{drop}
 use Rattle.sheet.specs.Sheet.{headerRecord}
 use Rattle.records.specs.Answers.{countsOf, headerSays}

@@ -1,4 +1,4 @@
--- `trees::grow` meets its contract. The loop's invariant: of every network and tree that the arrays pose, the first `found` positions of
+-- `trees::grow` meets its contract. The loop's invariant: of every network and tree that the arrays give, the first `found` positions of
 -- `order` are an order in the making, with its nodes marked in `reached`. A turn adds the node that `next_node` gives; without one the
 -- members leave a node apart.
 -- Assumes nothing.
@@ -9,18 +9,18 @@ use native.Mathlib.Omega.{arith}
 use lib.ListN.{length, length-set, getD-replicate}
 use Rattle.cuts.specs.Network.{Network, Tree}
 use Rattle.trees.specs.Order.{entry}
-use Rattle.trees.specs.Growing.{Posed}
-use Rattle.trees.proofs.GrowthLaws.{Growing, growing-start, posed-step, posed-stuck, posed-done}
+use Rattle.trees.specs.Growing.{Given}
+use Rattle.trees.proofs.GrowthLaws.{Growing, growing-start, given-step, given-stuck, given-done}
 use Rattle.trees.proofs.grow.Statement.{statement}
 use Rattle.trees.proofs.grow.Tie as tie
 
 abbrev Inv-loop : tie.InvT-loop
-Inv-loop reached₀ order₀ parents₀ links₀ firsts seconds members count nodes found₀ reached order parents links found =
-    (length reached ≡ 256) × (length order ≡ 256) × (length parents ≡ 256) × (length links ≡ 256) × (found ≤ nodes)
-    × ((net : Network) (t : Tree) → Posed net t firsts seconds members count nodes → Growing net t reached order parents links found)
+Inv-loop reached₀ order₀ parents₀ links₀ firsts seconds members count nodes found₀ reached order parents uplinks found =
+    (length reached ≡ 256) × (length order ≡ 256) × (length parents ≡ 256) × (length uplinks ≡ 256) × (found ≤ nodes)
+    × ((net : Network) (t : Tree) → Given net t firsts seconds members count nodes → Growing net t reached order parents uplinks found)
 
 abbrev μ-loop : tie.MeasureT-loop
-μ-loop reached₀ order₀ parents₀ links₀ firsts seconds members count nodes found₀ reached order parents links found = nodes - found
+μ-loop reached₀ order₀ parents₀ links₀ firsts seconds members count nodes found₀ reached order parents uplinks found = nodes - found
 
 clear-requires : tie.Need-clear-requires Inv-loop μ-loop
 clear-requires c κs = tt
@@ -41,7 +41,7 @@ loop-holds c =
       omega arith,
       omega arith,
       λ net t p. let e = p .held .sized in
-          growing-start (p .held .linked) (r .last .0) (a .order .now) (a .parents .now) (a .links .now) (omega arith) (omega arith) (omega arith) (omega arith)
+          growing-start (p .held .linked) (r .last .0) (a .order .now) (a .parents .now) (a .uplinks .now) (omega arith) (omega arith) (omega arith) (omega arith)
           (λ x b. ap (λ (xs : List ℕ). entry xs x) (r .ensures) ∙ getD-replicate (length (a .reached .now)) x 0 0 (omega arith)),
     )
 
@@ -68,14 +68,14 @@ cast-parents c = omega arith
 slice-write-parents : tie.Need-slice-write-parents Inv-loop μ-loop
 slice-write-parents c = omega arith
 
-cast-links : tie.Need-cast-links Inv-loop μ-loop
-cast-links c = omega arith
+cast-uplinks : tie.Need-cast-uplinks Inv-loop μ-loop
+cast-uplinks c = omega arith
 
-mul-links : tie.Need-mul-links Inv-loop μ-loop
-mul-links c = omega arith
+mul-uplinks : tie.Need-mul-uplinks Inv-loop μ-loop
+mul-uplinks c = omega arith
 
-slice-write-links : tie.Need-slice-write-links Inv-loop μ-loop
-slice-write-links c = omega arith
+slice-write-uplinks : tie.Need-slice-write-uplinks Inv-loop μ-loop
+slice-write-uplinks c = omega arith
 
 enum-told : tie.Need-enum-told Inv-loop μ-loop
 enum-told c = c .match .keys2
@@ -96,7 +96,7 @@ returns : tie.Need-returns Inv-loop μ-loop
 returns c =
     λ net t p.
     let l = c .before .before .before .before .before .loop in
-    posed-stuck p (l .inv .5 net t p) (c .before .before .next-node .ensures) (c .enum-told .given .1) (omega arith)
+    given-stuck p (l .inv .5 net t p) (c .before .before .next-node .ensures) (c .enum-told .given .1) (omega arith)
 
 add-found : tie.Need-add-found Inv-loop μ-loop
 add-found c = omega arith
@@ -112,7 +112,7 @@ loop-again c =
       simp length-set (l .inv .2),
       simp length-set (l .inv .3),
       omega arith,
-      λ net t p. posed-step p (l .inv .5 net t p) (c .before .before .before .next-node .ensures) (c .before .h .given .1),
+      λ net t p. given-step p (l .inv .5 net t p) (c .before .before .before .next-node .ensures) (c .before .h .given .1),
     )
 
 same-length-5 : tie.Need-same-length-5 Inv-loop μ-loop
@@ -128,7 +128,7 @@ same-length-8 : tie.Need-same-length-8 Inv-loop μ-loop
 same-length-8 c = omega arith
 
 returns-2 : tie.Need-returns-2 Inv-loop μ-loop
-returns-2 c = λ net t p. posed-done p (c .before .loop .inv .5 net t p) (omega arith)
+returns-2 c = λ net t p. given-done p (c .before .loop .inv .5 net t p) (omega arith)
 
 pub grow-spec : {M : Type 1} → statement M
 grow-spec =
@@ -147,9 +147,9 @@ grow-spec =
     slice-write-order-2
     cast-parents
     slice-write-parents
-    cast-links
-    mul-links
-    slice-write-links
+    cast-uplinks
+    mul-uplinks
+    slice-write-uplinks
     enum-told
     same-length
     same-length-2

@@ -1,4 +1,5 @@
--- The members listed are those of the map, and `grow` does the rest in the lent part of `work`. Assumes nothing.
+-- `tree_records::grow_tree` meets its contract. The members listed are those of the map, and `grow` does the rest in the lent part of
+-- `work`. Assumes nothing.
 use Prim.Native.Nat.{ℕ, _-_}
 use mathlib.Core.Path.{_≡_, ap, _∙_}
 use native.Mathlib.Omega.{arith}

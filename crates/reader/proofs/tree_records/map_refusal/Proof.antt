@@ -1,4 +1,5 @@
--- Each refusal number is that of the first check that fails, as the callees' answers decide the checks. Assumes nothing.
+-- `tree_records::map_refusal` meets its contract. Each refusal number is that of the first check that fails, as the callees' answers
+-- decide the checks. Assumes nothing.
 use mathlib.Core.Path.{sym, _∙_}
 use borrow.Author.Needs.{needs}
 use Rattle.reader.proofs.TreeLaws.{map-stray, map-miscounted, map-passed}

@@ -1,4 +1,5 @@
--- The four checks are made in their order, each by the callee whose contract says what it decides. Assumes nothing.
+-- `tree_records::read_tree` meets its contract. The four checks are made in their order, each by the callee whose contract says what it
+-- decides. Assumes nothing.
 use Prim.Native.Nat.{ℕ, _+_, _-_, _/_, _≤_}
 use mathlib.Core.Path.{_≡_, refl, sym, ap, _∙_}
 use native.Mathlib.Omega.{arith}

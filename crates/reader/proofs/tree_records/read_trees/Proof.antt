@@ -1,5 +1,6 @@
--- The loop's invariant: reading goes on behind the first i trees as the definition does, for every network that the arrays hold, and
--- `work` is as it was from 256 on. Assumes nothing.
+-- `tree_records::read_trees` meets its contract. The loop's invariant: reading goes on behind the first i trees as the definition does,
+-- for every network that the arrays hold, and `work` is as it was from 256 on; a turn reads the record that the definition reads next.
+-- Assumes nothing.
 use Prim.Native.Nat.{ℕ, _+_, _-_, _*_, _≤_}
 use mathlib.Core.Path.{_≡_, refl, sym, ap, _∙_, subst}
 use native.Mathlib.Nat.{zero-mul, suc-mul}

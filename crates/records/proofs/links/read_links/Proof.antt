@@ -1,4 +1,5 @@
--- The loop's invariant: the arrays hold the first k links, and reading goes on behind them as the definition does. Assumes nothing.
+-- `links::read_links` meets its contract. The loop's invariant: the arrays hold the first k links, and reading goes on behind them as the
+-- definition does; a turn reads the record that the definition reads next. Assumes nothing.
 use Prim.Native.Nat.{_-_}
 use mathlib.Core.Path.{_≡_, refl, subst}
 use native.Mathlib.Nat.{sub-zero}

@@ -1,5 +1,4 @@
--- `links::two_or` meets its contract, branch by branch.
--- Assumes nothing.
+-- `links::two_or` meets its contract, branch by branch. Assumes nothing.
 use borrow.Author.Needs.{needs}
 use borrow.Author.Tests.{eq-eqb, ne-eqb}
 use Rattle.records.proofs.links.two_or.Statement.{statement}

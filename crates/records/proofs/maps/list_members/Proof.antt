@@ -1,4 +1,5 @@
--- The loop's invariant: of the links below k those whose bits are set are listed, and `found` is their number. Assumes nothing.
+-- `maps::list_members` meets its contract. The loop's invariant: of the links below k those whose bits are set are listed, and `found` is
+-- their number; link k is added behind them where its bit is set. Assumes nothing.
 use Prim.Native.Nat.{ℕ, _+_, _*_, _-_, _≤_, _<_}
 use mathlib.Core.Path.{_≡_, refl, sym, ap, _∙_}
 use mathlib.Core.Logic.{⊎-elim}

@@ -1,4 +1,5 @@
--- The loop's invariant: the sum is the number of bits set in the first i bytes. Assumes nothing.
+-- `maps::ones` meets its contract. The loop's invariant: the sum is the number of bits set in the first i bytes; the ones of one byte
+-- more are its set bits. Assumes nothing.
 use Prim.Native.Nat.{ℕ, _*_, _-_, _≤_}
 use mathlib.Core.Path.{_≡_, refl, ap, _∙_}
 use native.Mathlib.Omega.{arith}

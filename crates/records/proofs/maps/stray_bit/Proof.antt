@@ -1,4 +1,5 @@
--- The loop's invariant: from the link count up no bit below k is set. Assumes nothing.
+-- `maps::stray_bit` meets its contract. The loop's invariant: from the link count up no bit below k is set, or the loop had ended there.
+-- Assumes nothing.
 use Prim.Native.Nat.{ℕ, _*_, _-_, _≤_, _<_}
 use mathlib.Core.Path.{_≡_, sym, _∙_}
 use mathlib.Core.Bool.{false, _&&_}
