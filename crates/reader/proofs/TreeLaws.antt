@@ -4,7 +4,6 @@ use Prim.Native.Nat.{ℕ, _+_, _-_, _*_, _/_, _≤_, _<_}
 use mathlib.Core.Path.{_≡_, refl, sym, ap, _∙_}
 use mathlib.Core.Bool.{Bool, true, false, _&&_, not, cond}
 use mathlib.Core.List.{List, [], _∷_, _++_}
-use native.Mathlib.Nat.{sub-zero}
 use native.Mathlib.Numerals.{add-one}
 use native.Mathlib.Omega.{arith}
 use lib.ListN.{length, take, drop, length-drop}
@@ -24,7 +23,7 @@ use Rattle.sheet.specs.Reading.{check, firstFailing, accepted, refused, unless,
 use Rattle.sheet.specs.Sheet.{mapLength, treeLength, treeIn, mapChecks, treeChecks, treeRecord}
 use Rattle.reader.specs.Answers.{treesFrom}
 use Rattle.sheet.proofs.Acceptance.{ones-below}
-use Rattle.sheet.proofs.ReadingLaws.{numbered, passed, unless-append, unless-refused, records-more, records-stop, records-done}
+use Rattle.sheet.proofs.ReadingLaws.{numbered, passed, unless-append, unless-refused, Run, run-start, run-more, run-done}
 
 -- ---- the checks of a map
 
@@ -152,29 +151,19 @@ unfolding treesFrom table
 treesFrom-more net i bs = rw add-one
 
 -- after i trees, of `count` from the position `from` on, reading goes on at the position `at`
-pub record TreesRun (net : Network) (s : Bytes) (from count at i : ℕ) : Type 0 where
-  pub run : records (λ _. treeRecord net) (count - i) (treesFrom net i (drop from s)) (drop at s) ≡ records (λ _. treeRecord net) count [] (drop from s)
+abbrev pub TreesRun : Network → Bytes → ℕ → ℕ → ℕ → ℕ → Type 0
+TreesRun net s from count at i = Run (λ _. treeRecord net) count i (treesFrom net i (drop from s)) (drop at s) (drop from s)
 
 pub trees-start : (net : Network) (s : Bytes) (from count : ℕ) → TreesRun net s from count from 0
 unfolding treesFrom table
-trees-start net s from count = record { run = rw sub-zero }
+trees-start net s from count = run-start (λ _. treeRecord net) count (drop from s)
 
-module _ {net : Network} {s : Bytes} {from count at i : ℕ} (w : TreesRun net s from count at i) where
-  module _ (more : i < count) where
-    pub trees-stop : (n : ℕ) → refused n ≡ treeRecord net (drop at s) → refused n ≡ records (λ _. treeRecord net) count [] (drop from s)
-    trees-stop n e = sym (records-stop (λ _. treeRecord net) count i (treesFrom net i (drop from s)) (drop at s) more n (sym e)) ∙ w .run
-
-    pub trees-more : at ≡ from + i * treeLength (linkCount net) → (end : ℕ) → accepted (treeIn net (drop at s)) (drop end s) ≡ treeRecord net (drop at s)
-        → TreesRun net s from count end (i + 1)
-    trees-more here end e =
-        let same : drop (i * treeLength (linkCount net)) (drop from s) ≡ drop at s = drop-drop (i * treeLength (linkCount net)) from s ∙ ap (λ (k : ℕ). drop k s) (sym here) in
-        record {
-          run =
-              rw (treesFrom-more net i (drop from s), same)
-              (sym (records-more (λ _. treeRecord net) count i (treesFrom net i (drop from s)) (drop at s) more (treeIn net (drop at s)) (drop end s) (sym e)) ∙ w .run);
-        }
+module _ (net : Network) (s : Bytes) (from count at i : ℕ) (w : TreesRun net s from count at i) where
+  pub trees-more : i < count → at ≡ from + i * treeLength (linkCount net) → (end : ℕ) → accepted (treeIn net (drop at s)) (drop end s) ≡ treeRecord net (drop at s)
+      → TreesRun net s from count end (i + 1)
+  trees-more more here end e =
+      let same : drop (i * treeLength (linkCount net)) (drop from s) ≡ drop at s = drop-drop (i * treeLength (linkCount net)) from s ∙ ap (λ (k : ℕ). drop k s) (sym here) in
+      rw (treesFrom-more net i (drop from s), same) (run-more w more (sym e))
 
   pub trees-done : i ≡ count → accepted (treesFrom net count (drop from s)) (drop at s) ≡ records (λ _. treeRecord net) count [] (drop from s)
-  trees-done e =
-      ap (λ (k : ℕ). accepted (treesFrom net k (drop from s)) (drop at s)) (sym e)
-      ∙ sym (records-done (λ _. treeRecord net) count i (treesFrom net i (drop from s)) (drop at s) e) ∙ w .run
+  trees-done e = rw e at (run-done w e)

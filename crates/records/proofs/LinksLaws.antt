@@ -1,7 +1,7 @@
 -- Links read one after another into arrays: what the arrays hold is what `records` has read so far.
 -- Assumes nothing.
 use Prim.Native.Nat.{ℕ, _+_, _-_, _≤_, _<_}
-use mathlib.Core.Path.{_≡_, sym, ap, _∙_}
+use mathlib.Core.Path.{_≡_, sym, _∙_}
 use mathlib.Core.List.{List, [], _∷_, _++_}
 use native.Mathlib.Omega.{arith}
 use native.Mathlib.Numerals.{add-one}
@@ -17,7 +17,7 @@ use Rattle.sheet.specs.Sheet.{base, linkRecord, nextLink}
 use Rattle.records.specs.Answers.{linkOf, linksOf}
 use Rattle.records.specs.declared.links.Link as link
 use Rattle.sheet.proofs.Acceptance.{GoodLink, good-link}
-use Rattle.sheet.proofs.ReadingLaws.{records-more, records-stop, records-done}
+use Rattle.sheet.proofs.ReadingLaws.{Run, run-more, run-stop, run-done}
 
 pub linksOf-length : (m : ℕ) (fs ss ws : List ℕ) → length (linksOf m fs ss ws) ≡ m
 unfolding linksOf
@@ -45,7 +45,7 @@ linksOf-set k a b w fs ss ws p q r =
 
 -- after k links, of `count` from the position `from` on: `at` is the position behind them, and l the last of them
 pub record LinksRun (s : Bytes) (from nodes count : ℕ) (sizes : ℕ × ℕ × ℕ) (fs ss ws : List ℕ) (at : ℕ) (l : link.Link) (k : ℕ) : Type 0 where
-  pub run : records (nextLink base nodes) (count - k) (linksOf k fs ss ws) (drop at s) ≡ records (nextLink base nodes) count [] (drop from s)
+  pub run : Run (nextLink base nodes) count k (linksOf k fs ss ws) (drop at s) (drop from s)
   pub last : linkOf l ≡ getD (linksOf k fs ss ws) (k - 1) noLink
   pub inside : at ≤ length s
   pub within : k ≤ count
@@ -58,25 +58,28 @@ pub record LinksRun (s : Bytes) (from nodes count : ℕ) (sizes : ℕ × ℕ × 
 module _ {s : Bytes} {from nodes count : ℕ} {sizes : ℕ × ℕ × ℕ} {fs ss ws : List ℕ} {at : ℕ} {l : link.Link} {k : ℕ}
     (w : LinksRun s from nodes count sizes fs ss ws at l k) where
   -- what is read next is the next link
-  same-next : (more : k < count) → nextLink base nodes (linksOf k fs ss ws) (drop at s) ≡ linkRecord base nodes (eqb k 0) (linkOf l) (drop at s)
-  same-next more = rw (linksOf-length k fs ss ws, ← w .last)
+  next-is : nextLink base nodes (linksOf k fs ss ws) (drop at s) ≡ linkRecord base nodes (eqb k 0) (linkOf l) (drop at s)
+  next-is = rw (linksOf-length k fs ss ws, ← w .last)
 
   module _ (more : k < count) where
     pub links-stop : (n : ℕ) → refused n ≡ linkRecord base nodes (eqb k 0) (linkOf l) (drop at s) → refused n ≡ records (nextLink base nodes) count [] (drop from s)
-    links-stop n e = sym (records-stop (nextLink base nodes) count k (linksOf k fs ss ws) (drop at s) more n (same-next more ∙ sym e)) ∙ w .run
+    links-stop n e = run-stop (w .run) more (next-is ∙ sym e)
 
     module _ (next : link.Link) (end : ℕ) (e : accepted (linkOf next) (drop end s) ≡ linkRecord base nodes (eqb k 0) (linkOf l) (drop at s)) where
       pub next-good : GoodLink base nodes (linkOf next)
-      next-good = good-link base nodes (linksOf k fs ss ws) (drop at s) (linkOf next) (drop end s) (same-next more ∙ sym e)
+      next-good = good-link base nodes (linksOf k fs ss ws) (drop at s) (linkOf next) (drop end s) (next-is ∙ sym e)
 
       pub links-more : end ≤ length s
           → LinksRun s from nodes count sizes (set fs k (next .first)) (set ss k (next .second)) (set ws k (next .weight)) end next (k + 1)
       links-more i =
           let r = w .room in
-          let held = linksOf-set k (next .first) (next .second) (next .weight) fs ss ws (omega (arith, w .firsts, r .0)) (omega (arith, w .seconds, r .1)) (omega (arith, w .weights, r .2)) in
+          let held =
+          linksOf-set k (next .first) (next .second) (next .weight) fs ss ws (omega (arith, w .firsts, r .0)) (omega (arith, w .seconds, r .1))
+          (omega (arith, w .weights, r .2)) in
+          let place : k + 1 - 1 ≡ k = omega arith in
           record {
-            run = rw held (sym (records-more (nextLink base nodes) count k (linksOf k fs ss ws) (drop at s) more (linkOf next) (drop end s) (same-next more ∙ sym e)) ∙ w .run);
-            last = rw held (sym (ap (λ (i : ℕ). getD (linksOf k fs ss ws ++ linkOf next ∷ []) i noLink) (omega arith) ∙ getD-at (linksOf k fs ss ws) (linkOf next) [] noLink k (linksOf-length k fs ss ws)));
+            run = rw held (run-more (w .run) more (next-is ∙ sym e));
+            last = rw (held, place) (sym (getD-at (linksOf k fs ss ws) (linkOf next) [] noLink k (linksOf-length k fs ss ws)));
             inside = i;
             within = omega arith;
             few = w .few;
@@ -87,6 +90,4 @@ module _ {s : Bytes} {from nodes count : ℕ} {sizes : ℕ × ℕ × ℕ} {fs ss
           }
 
   pub links-done : k ≡ count → accepted (linksOf count fs ss ws) (drop at s) ≡ records (nextLink base nodes) count [] (drop from s)
-  links-done e =
-      ap (λ (n : ℕ). accepted (linksOf n fs ss ws) (drop at s)) (sym e)
-      ∙ sym (records-done (nextLink base nodes) count k (linksOf k fs ss ws) (drop at s) e) ∙ w .run
+  links-done e = rw e at (run-done (w .run) e)

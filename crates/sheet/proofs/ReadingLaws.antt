@@ -1,9 +1,10 @@
 -- What is known where a value was read: each check passed, and each of the records read is one that `one` accepted. What two lists of
--- checks say, one behind the other. Assumes nothing.
+-- checks say, one behind the other, and how reading goes on from one record to the next. Assumes nothing.
 use Prim.Native.Nat.{ℕ, zero, suc, _+_, _-_, _<_}
 use mathlib.Core.Path.{_≡_, refl, sym, ap, _∙_, subst}
 use mathlib.Core.Bool.{Bool, true, false, _&&_, cond, and-eq-true-iff}
 use mathlib.Core.List.{List, [], _∷_, _++_}
+use native.Mathlib.Nat.{sub-zero}
 use native.Mathlib.Omega.{arith}
 use lib.ListN.{length, getD, length-append, List·getD-append}
 use lib.Seq.{getD-append-seam}
@@ -91,16 +92,22 @@ module _ {A : Type 0} (d : A) (Q : A → Type 0) (one : List A → Bytes → Rea
       let l = length-append got (r .0 ∷ []) in
       (s .0, let m = s .1 in omega arith)
 
--- one record more
-module _ {A : Type 0} (one : List A → Bytes → Reading A) (m k : ℕ) (got : List A) (bs : Bytes) (more : k < m) where
-  pub records-more : (x : A) (rest : Bytes) → one got bs ≡ accepted x rest → records one (m - k) got bs ≡ records one (m - (k + 1)) (got ++ x ∷ []) rest
-  unfolding records
-  records-more x rest e = let n : m - k ≡ suc (m - (k + 1)) = omega arith in rw (n, e)
+-- after k records, of m from the bytes `start` on: `got` are read, and reading goes on with bs
+pub record Run {A : Type 0} (one : List A → Bytes → Reading A) (m k : ℕ) (got : List A) (bs start : Bytes) : Type 0 where
+  pub rest : records one (m - k) got bs ≡ records one m [] start
 
-  pub records-stop : (n : ℕ) → one got bs ≡ refused n → records one (m - k) got bs ≡ refused n
-  unfolding records
-  records-stop n e = let q : m - k ≡ suc (m - (k + 1)) = omega arith in rw (q, e)
+pub run-start : {A : Type 0} (one : List A → Bytes → Reading A) (m : ℕ) (start : Bytes) → Run one m 0 [] start start
+run-start one m start = record { rest = rw sub-zero }
 
-pub records-done : {A : Type 0} (one : List A → Bytes → Reading A) (m k : ℕ) (got : List A) (bs : Bytes) → k ≡ m → records one (m - k) got bs ≡ accepted got bs
-unfolding records
-records-done one m k got bs e = let n : m - k ≡ 0 = omega arith in rw n
+module _ {A : Type 0} {one : List A → Bytes → Reading A} {m k : ℕ} {got : List A} {bs start : Bytes} (w : Run one m k got bs start) where
+  pub run-more : k < m → {x : A} {rest : Bytes} → one got bs ≡ accepted x rest → Run one m (k + 1) (got ++ x ∷ []) rest start
+  unfolding records
+  run-more more e = let n : m - k ≡ suc (m - (k + 1)) = omega arith in record { rest = rw (n, e) at (w .rest) }
+
+  pub run-stop : k < m → {n : ℕ} → one got bs ≡ refused n → refused n ≡ records one m [] start
+  unfolding records
+  run-stop more e = let n : m - k ≡ suc (m - (k + 1)) = omega arith in rw (n, e) at (w .rest)
+
+  pub run-done : k ≡ m → accepted got bs ≡ records one m [] start
+  unfolding records
+  run-done e = let n : m - k ≡ 0 = omega arith in rw n at (w .rest)

@@ -14,7 +14,8 @@ use Rattle.sheet.specs.Sheet.{treeLength, treeIn, treeRecord}
 use Rattle.records.specs.Answers.{stepSays, EndsAt}
 use Rattle.reader.specs.Answers.{TreeArrays}
 use Rattle.records.specs.declared.Step.{Step}
-use Rattle.reader.proofs.TreeLaws.{TreesRun, trees-start, trees-stop, trees-more, trees-done}
+use Rattle.sheet.proofs.ReadingLaws.{run-stop}
+use Rattle.reader.proofs.TreeLaws.{TreesRun, trees-start, trees-more, trees-done}
 use Rattle.reader.proofs.tree_records.read_trees.Statement.{statement}
 use Rattle.reader.proofs.tree_records.read_trees.Tie as tie
 
@@ -39,8 +40,10 @@ tree c = c .before .before .before .before .before .before .before .before .befo
 
 loop-holds : tie.Need-loop-holds Inv-loop μ-loop
 loop-holds c =
-    let p = c .before .before .before .before .before .before .before .before .pre in
-    (p .0 .0, omega arith, p .1 .1, refl, refl, rw zero-mul (omega arith), λ net h n. trees-start net _ _ _)
+    let b = c .before .before .before .before .before .before .before .before in
+    let a = b .args in
+    let p = b .pre in
+    (p .0 .0, omega arith, p .1 .1, refl, refl, rw zero-mul (omega arith), λ net h n. trees-start net (a .s .now) (a .from) (a .trees))
 
 read-tree-requires : tie.Need-read-tree-requires Inv-loop μ-loop
 read-tree-requires c κs =
@@ -93,10 +96,10 @@ ends c r e = let a = start (test c .before) .args in subst (λ (r : Step). EndsA
 
 returns : tie.Need-returns Inv-loop μ-loop
 returns c =
-    let l = test (tree (c .before .before .before)) .before .loop in
+    let t = tree (c .before .before .before) in
     let is = c .before .n .given .1 in (
-      λ net h n. trees-stop (l .inv .6 net h n) (test (tree (c .before .before .before)) .loop-test .taken) (c .before .n .given .0 .0) (told (tree (c .before .before .before)) _ is net h n),
-      (ends (tree (c .before .before .before)) _ is, kept (tree (c .before .before .before)) .2),
+      λ net h n. run-stop (test t .before .loop .inv .6 net h n) (test t .loop-test .taken) (sym (told t _ is net h n)),
+      (ends t _ is, kept t .2),
     )
 
 add-i : tie.Need-add-i Inv-loop μ-loop
@@ -107,10 +110,12 @@ loop-less c = search needs
 
 loop-again : tie.Need-loop-again Inv-loop μ-loop
 loop-again c =
-    let l = test (tree (c .before .before .before)) .before .loop in
+    let t = tree (c .before .before .before) in
+    let a = start (test t .before) .args in
+    let l = test t .before .loop in
     let is = c .before .end .given .1 in
-    let k = kept (tree (c .before .before .before)) in
-    let e = ends (tree (c .before .before .before)) _ is in
+    let k = kept t in
+    let e = ends t _ is in
     let at = l .inv .5 in (
       e .1,
       omega arith,
@@ -118,7 +123,8 @@ loop-again c =
       k .1,
       k .2,
       rw (add-one, suc-mul) (omega (arith, e .0, at)),
-      λ net h n. trees-more (l .inv .6 net h n) (test (tree (c .before .before .before)) .loop-test .taken) (at ∙ ap (λ (m : ℕ). start (test (tree (c .before .before .before)) .before) .args .from + l .i * treeLength m) (sym n)) (c .before .end .given .0 .0) (told (tree (c .before .before .before)) _ is net h n),
+      λ net h n. trees-more net (a .s .now) (a .from) (a .trees) (l .at) (l .i) (l .inv .6 net h n) (test t .loop-test .taken)
+          (at ∙ ap (λ (m : ℕ). a .from + l .i * treeLength m) (sym n)) (c .before .end .given .0 .0) (told t _ is net h n),
     )
 
 same-length-6 : tie.Need-same-length-6 Inv-loop μ-loop
@@ -141,7 +147,7 @@ returns-2 c =
     let l = c .before .loop in
     let a = start (c .before) .args in
     let done : l .i ≡ a .trees = let b = l .inv .1 in omega arith in
-    (λ net h n. trees-done (l .inv .6 net h n) done, ((l .inv .5 ∙ ap (λ (k : ℕ). a .from + k * treeLength (a .links)) done, l .inv .0), l .inv .4))
+    (λ net h n. trees-done net (a .s .now) (a .from) (a .trees) (l .at) (l .i) (l .inv .6 net h n) done, ((l .inv .5 ∙ ap (λ (k : ℕ). a .from + k * treeLength (a .links)) done, l .inv .0), l .inv .4))
 
 pub read-trees-spec : {M : Type 1} → statement M
 read-trees-spec =

@@ -2,7 +2,6 @@
 -- definition does; a turn reads the record that the definition reads next. Assumes nothing.
 use Prim.Native.Nat.{_-_}
 use mathlib.Core.Path.{_≡_, refl, subst}
-use native.Mathlib.Nat.{sub-zero}
 use native.Mathlib.Omega.{arith}
 use lib.ListN.{length, drop}
 use lib.Dec.{eqb}
@@ -10,6 +9,7 @@ use Rattle.cuts.specs.Sums.{table}
 use Rattle.sheet.specs.Sheet.{base, linkRecord}
 use Rattle.records.specs.Answers.{linkOf, linkSays, LinkInside, linksOf}
 use Rattle.records.specs.declared.links.Record.{Record}
+use Rattle.sheet.proofs.ReadingLaws.{run-start}
 use Rattle.sheet.proofs.Acceptance.{GoodLink}
 use Rattle.records.proofs.LinksLaws.{LinksRun, links-stop, links-more, links-done, next-good}
 use Rattle.records.proofs.links.read_links.Statement.{statement}
@@ -25,7 +25,7 @@ abbrev μ-loop : tie.MeasureT-loop
 loop-holds : tie.Need-loop-holds Inv-loop μ-loop
 unfolding linksOf table
 loop-holds c = record {
-  run = rw sub-zero;
+  run = run-start _ _ _;
   last = refl;
   inside = omega arith;
   within = omega arith;
