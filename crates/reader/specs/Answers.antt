@@ -25,12 +25,12 @@ use Rattle.reader.specs.declared.Outcome.{Outcome}
 use Rattle.reader.specs.declared.Outcome.the-variants.{Read, Refused}
 
 abbrev pub TreeArrays : List ℕ → List ℕ → List ℕ → List ℕ → List ℕ → Type 0
-TreeArrays members work order parents links =
-    (length members ≡ 256) × (256 ≤ length work) × (length order ≡ 256) × (length parents ≡ 256) × (length links ≡ 256)
+TreeArrays members work order parents uplinks =
+    (length members ≡ 256) × (256 ≤ length work) × (length order ≡ 256) × (length parents ≡ 256) × (length uplinks ≡ 256)
 
-pub record ReadyTree (net : Network) (t : Tree) (members order parents links : List ℕ) (all : Bool) : Type 0 where
+pub record ReadyTree (net : Network) (t : Tree) (members order parents uplinks : List ℕ) (all : Bool) : Type 0 where
   pub listed : take (net .nodes - 1) members ≡ memberLinks net t
-  pub grown : GrownTree net t order parents links all
+  pub grown : GrownTree net t order parents uplinks all
 
 unfoldable pub treesFrom : Network → ℕ → Bytes → List Tree
 unfolding table treeIn
