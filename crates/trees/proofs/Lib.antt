@@ -1,3 +1,5 @@
 pub mod NextLaws
 pub mod OrderLaws
 pub mod GrowthLaws
+pub mod MarkLaws
+pub mod BelowLaws

@@ -2,6 +2,8 @@
 // reached and, for each but the root, its parent and its parent link. When no such link is left, the members join no other node to
 // the root.
 // The ends of link k stand in firsts[k] and seconds[k]; the tree's members are the first `count` numbers of `members`.
+pub mod below; // the nodes below a tree link
+
 ghost use mathlib.Core.Path.{_≡_};
 ghost use Prim.Native.Nat.{_≤_, _<_};
 ghost use lib.ListN.{length, take, replicate};
@@ -21,7 +23,7 @@ pub enum Next {
 }
 
 // Sets every number to 0.
-fn clear(part: &mut [u8])
+pub fn clear(part: &mut [u8])
     ensures { λ _. ⌜ now (part .exit) ≡ replicate (length (now (part .entry))) 0 ⌝ }
 {
     let mut i = 0;
@@ -64,7 +66,8 @@ fn next_node(reached: &[u8], firsts: &[u8], seconds: &[u8], members: &[u16], cou
     Next::Nothing
 }
 
-// Whether the members join every node to the root; if so, `order`, `parents` and `uplinks`, the parent links, order the nodes. `reached` is work space.
+// Whether the members join every node to the root; if so, `order`, `parents` and `uplinks`, the parent links, order the nodes.
+// `reached` is work space.
 pub fn grow(
     reached: &mut [u8],
     order: &mut [u8],

@@ -1,0 +1,11 @@
+-- A side as an array has it: a number for each of the 256 nodes that there may be. Assumes nothing.
+--   marks s    1 for each node of the side s, 0 for every other
+use Prim.Native.Nat.{ℕ}
+use mathlib.Core.List.{List}
+use Rattle.cuts.specs.Sums.{only, table}
+use Rattle.cuts.specs.Network.{flag}
+use Rattle.cuts.specs.Cut.{Side}
+
+unfoldable pub marks : Side → List ℕ
+unfolding table
+marks s = table 256 (λ x. only (flag s x) 1)
