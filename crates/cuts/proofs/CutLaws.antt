@@ -1,6 +1,6 @@
 -- Crossing the symmetric difference of two sides and the complement of a side, and the weights of both.
 -- Assumes nothing.
-use Prim.Native.Nat.{ℕ, zero, suc, _+_, _*_, _≤_, _<_}
+use Prim.Native.Nat.{ℕ, zero, suc, _+_, _-_, _*_, _≤_, _<_}
 use mathlib.Core.Path.{_≡_, refl, sym, ap, _∙_}
 use mathlib.Core.Bool.{Bool, true, false, _&&_, not, xor}
 use mathlib.Core.List.{[], _∷_, map}
@@ -11,7 +11,7 @@ use Rattle.cuts.specs.Sums.{only}
 use Rattle.cuts.specs.Network.{Tree, Network, flag, linkAt, linkCount, Linked}
 use Rattle.cuts.specs.Cut.{Side, crosses, cutWeight, crossings, symDiff}
 use Rattle.cuts.specs.Tree.{below}
-use Rattle.cuts.specs.Candidate.{Handle, one, two, pairWeight, sideOf, weightOf}
+use Rattle.cuts.specs.Candidate.{Handle, one, two, sharedWeight, pairWeight, sideOf, weightOf}
 use Rattle.cuts.proofs.FlagLaws.{xor-comm, xor-false, xor-swap, xor-not}
 use Rattle.cuts.proofs.SumLaws.{sum-congr, sum-mono, sum-add, sum-const, sum-scale}
 
@@ -60,6 +60,27 @@ pub weightOf-is : (net : Network) (t : Tree) (h : Handle) → weightOf net t h �
 unfolding weightOf sideOf
 weightOf-is net t (one e) = refl
 weightOf-is net t (two e f) = pairWeight-is net (below net t e) (below net t f)
+
+sharedWeight-most : (net : Network) (r s : Side) → (sharedWeight net r s ≤ cutWeight net r) × (sharedWeight net r s ≤ cutWeight net s)
+unfolding sharedWeight cutWeight
+sharedWeight-most net r s = (
+  sum-mono (linkCount net) _ _ (λ k _. left (crosses net r k) (crosses net s k) (linkAt net k .weight)),
+  sum-mono (linkCount net) _ _ (λ k _. right (crosses net r k) (crosses net s k) (linkAt net k .weight)),
+)
+  where
+    left : (p q : Bool) (x : ℕ) → only (p && q) x ≤ only p x
+    left true true x = omega arith
+    left true false x = omega arith
+    left false q x = omega arith
+
+    right : (p q : Bool) (x : ℕ) → only (p && q) x ≤ only q x
+    right true q x = omega arith
+    right false q x = omega arith
+
+-- two sides weigh together no less than they are apart
+pub pairWeight-apart : (net : Network) (r s : Side) → (cutWeight net r - cutWeight net s) + (cutWeight net s - cutWeight net r) ≤ pairWeight net r s
+unfolding pairWeight
+pairWeight-apart net r s = let h = sharedWeight-most net r s in omega (arith, h .0, h .1)
 
 -- no cut weighs more than all links at the largest weight
 pub cutWeight-most : (net : Network) (w : ℕ) → ((k : ℕ) → k < linkCount net → linkAt net k .weight ≤ w) → (s : Side) → cutWeight net s ≤ linkCount net * w

@@ -103,3 +103,18 @@ module _ {A : Type 0} {before : A → A → Bool} (o : Order before) where
   unfolding firstOf
   first-of none [] m = absurd (List·Memᴰ·not-nil m)
   first-of none (c ∷ cs) m = first-from c cs
+
+-- ---- runs
+
+module _ {A : Type 0} (before : A → A → Bool) where
+  -- the first of two lists is found in the one, then in the other
+  pub firstFrom-append : (c : A) (xs ys : List A) → firstFrom before c (xs ++ ys) ≡ firstFrom before (firstFrom before c xs) ys
+  unfolding firstFrom
+  firstFrom-append c [] ys = refl
+  firstFrom-append c (x ∷ xs) ys = firstFrom-append (cond (before x c) x c) xs ys
+
+  -- from one that all come before, the first is that of the list
+  pub firstFrom-firstOf : (none c : A) (xs : List A) {x : A} → List·Memᴰ x xs → ((d : A) → List·Memᴰ d xs → before d c ≡ true) → firstFrom before c xs ≡ firstOf before none xs
+  unfolding firstFrom firstOf
+  firstFrom-firstOf none c [] m h = absurd (List·Memᴰ·not-nil m)
+  firstFrom-firstOf none c (d ∷ xs) m h = rw (h d (List·Memᴰ·head refl))
