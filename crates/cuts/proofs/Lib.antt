@@ -5,6 +5,7 @@ pub mod Joined
 pub mod CutLaws
 pub mod Spanning
 pub mod Crossings
+pub mod LoadLaws
 pub mod Packing
 pub mod Least
 pub mod Handles

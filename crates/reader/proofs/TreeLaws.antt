@@ -50,7 +50,7 @@ module _ (map : Bytes) (nodes links : ℕ) where
 
 -- ---- the map as a slice
 
-mapBit-take : (n : ℕ) (bs : Bytes) (k : ℕ) → k < 8 * n → mapBit (take n bs) k ≡ mapBit bs k
+pub mapBit-take : (n : ℕ) (bs : Bytes) (k : ℕ) → k < 8 * n → mapBit (take n bs) k ≡ mapBit bs k
 mapBit-take n bs k h = rw (getD-take n bs (k / 8) 0 (omega arith))
 
 mapChecks-take : (nodes links : ℕ) (bs : Bytes) → mapChecks nodes links (take (mapLength links) bs) ≡ mapChecks nodes links bs
@@ -146,7 +146,7 @@ module _ (net : Network) (s map : Bytes) (at : ℕ) (slice : map ≡ take (mapLe
 
 -- ---- one record after another
 
-treesFrom-more : (net : Network) (i : ℕ) (bs : Bytes) → treesFrom net (i + 1) bs ≡ treesFrom net i bs ++ treeIn net (drop (i * treeLength (linkCount net)) bs) ∷ []
+pub treesFrom-more : (net : Network) (i : ℕ) (bs : Bytes) → treesFrom net (i + 1) bs ≡ treesFrom net i bs ++ treeIn net (drop (i * treeLength (linkCount net)) bs) ∷ []
 unfolding treesFrom table
 treesFrom-more net i bs = rw add-one
 

@@ -8,7 +8,7 @@ ghost use Rattle.cuts.specs.Sums.{countTo, anyTo, select};
 ghost use Rattle.sheet.specs.Bytes.{mapBit};
 
 // Whether bit k is set.
-fn bit_set(map: &[u8], k: usize) -> bool
+pub fn bit_set(map: &[u8], k: usize) -> bool
     requires { ⌜ k < 8 * length (now map) ⌝ }
     ensures { λ r. ⌜ r ≡ mapBit (now (map .entry)) k ⌝ }
 {
