@@ -1,0 +1,24 @@
+// Numbers as bytes, lowest byte first.
+ghost use mathlib.Core.Path.{_≡_};
+ghost use mathlib.Core.List.{_++_};
+ghost use Prim.Native.Nat.{_+_, _≤_};
+ghost use lib.ListN.{length, take, drop};
+ghost use Rattle.sheet.specs.Bytes.{bytesOf};
+
+// Writes a number into the two bytes at a position.
+pub fn put_two(area: &mut [u8], at: usize, v: u16)
+    requires { ⌜ at + 2 ≤ length (now area) ⌝ }
+    ensures { λ _. ⌜ now (area .exit) ≡ take at (now (area .entry)) ++ bytesOf 2 v ++ drop (at + 2) (now (area .entry)) ⌝ }
+{
+    area[at] = (v % 256) as u8;
+    area[at + 1] = (v / 256) as u8;
+}
+
+// Writes a number into the four bytes at a position.
+pub fn put_four(area: &mut [u8], at: usize, v: u32)
+    requires { ⌜ at + 4 ≤ length (now area) ⌝ }
+    ensures { λ _. ⌜ now (area .exit) ≡ take at (now (area .entry)) ++ bytesOf 4 v ++ drop (at + 4) (now (area .entry)) ⌝ }
+{
+    put_two(area, at, (v % 65536) as u16);
+    put_two(area, at + 2, (v / 65536) as u16);
+}

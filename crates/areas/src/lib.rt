@@ -1,0 +1,81 @@
+// Writes the side area and the report area.
+pub mod bytes; // numbers of two and four bytes
+
+use crate::bytes::put_four;
+use crate::bytes::put_two;
+ghost use mathlib.Core.Path.{_≡_};
+ghost use mathlib.Core.List.{[], _∷_};
+ghost use Prim.Native.Nat.{ℕ, _+_, _≤_};
+ghost use lib.ListN.{length};
+ghost use Rattle.cuts.specs.Sums.{countTo};
+ghost use Rattle.cuts.specs.Network.{flag};
+ghost use Rattle.cuts.specs.Cut.{Side};
+ghost use Rattle.trees.specs.Marks.{marks};
+ghost use Rattle.sheet.specs.Bytes.{byteOf, fieldBytes};
+ghost use Rattle.sheet.specs.Areas.{sideBytes, reportWidths, written};
+
+// The fields of the report area, in their order.
+pub struct Report {
+    pub verdict: u8,
+    pub tree: u8,
+    pub count: u16,
+    pub first: u16,
+    pub second: u16,
+    pub weight: u32,
+    pub floor: u32,
+}
+
+// How many of the first `nodes` nodes are marked.
+pub fn count_marked(side: &[u8], nodes: usize) -> u16
+    requires { ⌜ (length (now side) ≡ 256) × (nodes ≤ 256) ⌝ }
+    ensures { λ r. ⌜ ((s : Side) → now (side .entry) ≡ marks s → r ≡ countTo nodes (flag s)) ⌝ }
+{
+    let mut sum: u16 = 0;
+    let mut x = 0;
+    while x < nodes {
+        sum += side[x] as u16;
+        x += 1;
+    }
+    sum
+}
+
+// The byte of the eight marks at a position.
+fn packed(side: &[u8], at: usize) -> u8
+    requires { ⌜ (length (now side) ≡ 256) × (at + 8 ≤ 256) ⌝ }
+    ensures { λ r. ⌜ ((s : Side) → now (side .entry) ≡ marks s → r ≡ byteOf (λ i. flag s (at + i))) ⌝ }
+{
+    side[at] % 2
+        + 2 * (side[at + 1] % 2)
+        + 4 * (side[at + 2] % 2)
+        + 8 * (side[at + 3] % 2)
+        + 16 * (side[at + 4] % 2)
+        + 32 * (side[at + 5] % 2)
+        + 64 * (side[at + 6] % 2)
+        + 128 * (side[at + 7] % 2)
+}
+
+// Writes a side, given as marks: node k is bit k mod 8 of byte k / 8.
+pub fn write_side(area: &mut [u8], side: &[u8])
+    requires { ⌜ (length (now side) ≡ 256) × (32 ≤ length (now area)) ⌝ }
+    ensures { λ _. ⌜ ((s : Side) → now (side .entry) ≡ marks s → now (area .exit) ≡ written (sideBytes s) (now (area .entry))) ⌝ }
+{
+    let mut j = 0;
+    while j < 32 {
+        area[j] = packed(side, 8 * j);
+        j += 1;
+    }
+}
+
+// Writes a report.
+pub fn write_report(area: &mut [u8], r: Report)
+    requires { ⌜ 16 ≤ length (now area) ⌝ }
+    ensures { λ _. ⌜ now (area .exit) ≡ written (fieldBytes reportWidths (r .verdict ∷ r .tree ∷ r .count ∷ r .first ∷ r .second ∷ r .weight ∷ r .floor ∷ [])) (now (area .entry)) ⌝ }
+{
+    area[0] = r.verdict;
+    area[1] = r.tree;
+    put_two(area, 2, r.count);
+    put_two(area, 4, r.first);
+    put_two(area, 6, r.second);
+    put_four(area, 8, r.weight);
+    put_four(area, 12, r.floor);
+}
