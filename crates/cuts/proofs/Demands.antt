@@ -152,7 +152,7 @@ module _ (net : Network) (v : Sound net) where
       step (inl e) = let r = anyTo-some (length (net .trees)) few e in inl (r .0, r .1, leb-true _ 2 (r .2))
       step (inr e) = inr (λ t m. let r = mem-at noTree m in subst (λ (u : Tree). 3 ≤ crossings net u s) (r .2) (many e (r .0) (r .1)))
 
-  some-candidate : (c : Candidate) × List·Memᴰ c (candidates net)
+  pub some-candidate : (c : Candidate) × List·Memᴰ c (candidates net)
   unfolding memberCount
   some-candidate = from (count-last (linkCount net) (flag (treeAt net 0 .members)) (let n = v .spanning 0 (v .listed) .counted in let q = v .several in omega arith))
     where

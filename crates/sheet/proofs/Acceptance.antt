@@ -15,9 +15,9 @@ use Rattle.cuts.specs.Tree.{memberCount, joins, spread, spreads, root, joined, 
 use Rattle.cuts.proofs.FlagLaws.{clash, neither}
 use Rattle.cuts.proofs.SumLaws.{anyTo-at, sum-congr, count-cut, table-length, table-at}
 use Rattle.sheet.specs.Bytes.{Bytes, mapBit}
-use Rattle.sheet.specs.Reading.{Check, accepted, check, firstFailing, records}
-use Rattle.sheet.specs.Sheet.{Format, Accepted, Counts, countsIn, countChecks, headerRecord, linkIn, shapeChecks, valueChecks, linkRecord, nextLink, mapLength, treeIn, mapChecks, treeChecks, treeRecord, network, decodeBody, decode}
-use Rattle.sheet.proofs.ReadingLaws.{passed, unless-accepted, andThen-accepted, All, records-all}
+use Rattle.sheet.specs.Reading.{Check, Reading, accepted, numberOf, check, firstFailing, records}
+use Rattle.sheet.specs.Sheet.{Format, Accepted, Counts, countsIn, countChecks, headerRecord, recordLength, linkIn, shapeChecks, valueChecks, linkRecord, nextLink, mapLength, treeLength, treeIn, mapChecks, treeChecks, treeRecord, network, decodeBody, decode}
+use Rattle.sheet.proofs.ReadingLaws.{passed, unless-accepted, andThen-accepted, Nonzero, unless-nonzero, andThen-nonzero, records-nonzero, nonzero-accepted, All, records-all}
 
 -- ---- the header
 
@@ -93,7 +93,7 @@ ones-below map links h = count-cut links (8 * mapLength links) (mapBit map) (ome
     clear k a b false e = refl
     clear k a b true e = clash (anyTo-at (8 * mapLength links) (λ j. leb links j && mapBit map j) k b (rw (le-leb links k a) e)) h
 
-members-counted : (net : Network) (bs : Bytes) → memberCount net (treeIn net bs) ≡ countTo (linkCount net) (mapBit (drop 4 bs))
+pub members-counted : (net : Network) (bs : Bytes) → memberCount net (treeIn net bs) ≡ countTo (linkCount net) (mapBit (drop 4 bs))
 unfolding memberCount treeIn
 members-counted net bs = sum-congr (linkCount net) _ _ (λ k b. rw (table-at false (linkCount net) (mapBit (drop 4 bs)) k b))
 
@@ -170,3 +170,50 @@ decode-accepted f sheet net rest e =
           weights-most = λ k b. g .0 k b .light;
           members-sized = λ i b. s .0 i b .sized;
         }
+
+nothing-left : (f : Format) (sheet : Bytes) (net : Network) (rest : Bytes) → decode f sheet ≡ accepted net rest → rest ≡ []
+unfolding decode decodeBody firstFailing
+nothing-left f sheet net rest e =
+    let h = andThen-accepted (headerRecord sheet) _ e in
+    let c : Counts = h .0 in
+    let l = andThen-accepted (records (nextLink f (c .nodes)) (c .links) [] (h .1)) _ (h .3) in
+    let t = andThen-accepted (records (λ _. treeRecord (network (c .nodes) (l .0) [])) (c .trees) [] (l .1)) _ (l .3) in
+    let cs : List Check = check 16 (ltb 0 (length (t .1))) ∷ [] in
+    let end = unless-accepted (firstFailing cs) _ (t .3) in
+    let q : t .1 ≡ rest = cc in
+    let none : length rest ≤ 0 = rw q at (ltb-false 0 (length (t .1)) (passed 16 cs refl (end .0))) in
+    empty rest none
+  where
+    empty : (bs : Bytes) → length bs ≤ 0 → bs ≡ []
+    empty [] b = refl
+    empty (x ∷ bs) b = absurd (not-suc-le-zero b)
+
+header-nonzero : (sheet : Bytes) → Nonzero (headerRecord sheet)
+unfolding headerRecord
+header-nonzero sheet = unless-nonzero (firstFailing (check 3 (ltb (length sheet) 5) ∷ countChecks (countsIn sheet))) (accepted (countsIn sheet) (drop 5 sheet)) tt
+
+link-nonzero : (f : Format) (nodes : ℕ) (start : Bool) (before : Link) (bs : Bytes) → Nonzero (linkRecord f nodes start before bs)
+unfolding linkRecord
+link-nonzero f nodes start before bs =
+    let l : Link = linkIn f before bs in
+    unless-nonzero (firstFailing (shapeChecks f start bs ++ valueChecks f nodes l)) (accepted l (drop (recordLength f bs) bs)) tt
+
+tree-nonzero : (net : Network) (bs : Bytes) → Nonzero (treeRecord net bs)
+unfolding treeRecord
+tree-nonzero net bs = unless-nonzero (firstFailing (treeChecks net bs)) (accepted (treeIn net bs) (drop (treeLength (linkCount net)) bs)) tt
+
+decode-nonzero : (f : Format) (sheet : Bytes) → Nonzero (decode f sheet)
+unfolding decode decodeBody
+decode-nonzero f sheet =
+    andThen-nonzero (headerRecord sheet) (decodeBody f) (header-nonzero sheet)
+    (λ c body. let n : ℕ = c .nodes in
+    andThen-nonzero (records (nextLink f n) (c .links) [] body) _ (records-nonzero (nextLink f n) (λ got bs. link-nonzero f n (eqb (length got) 0) _ bs) (c .links) [] body)
+    (λ links rest. let one : Bytes → Reading Tree = treeRecord (network n links []) in
+    andThen-nonzero (records (λ _. one) (c .trees) [] rest) _ (records-nonzero (λ _. one) (λ got. tree-nonzero (network n links [])) (c .trees) [] rest)
+    (λ trees end. unless-nonzero (firstFailing (check 16 (ltb 0 (length end)) ∷ [])) (accepted (network n links trees) end) tt)))
+
+-- number 0: a network was read, and nothing is left
+pub decode-zero : (f : Format) (sheet : Bytes) → numberOf (decode f sheet) ≡ 0 → (net : Network) × (decode f sheet ≡ accepted net [])
+decode-zero f sheet z =
+    let a = nonzero-accepted (decode f sheet) (decode-nonzero f sheet) z in
+    (a .0, a .2 ∙ ap (accepted (a .0)) (nothing-left f sheet (a .0) (a .1) (a .2)))

@@ -1,5 +1,5 @@
 -- What is known where a value was read: each check passed, and each of the records read is one that `one` accepted. What two lists of
--- checks say, one behind the other, and how reading goes on from one record to the next. Assumes nothing.
+-- checks say, one behind the other, and how reading goes on from one record to the next. A refusal's number is never 0. Assumes nothing.
 use Prim.Native.Nat.{ℕ, zero, suc, _+_, _-_, _<_}
 use mathlib.Core.Path.{_≡_, refl, sym, ap, _∙_, subst}
 use mathlib.Core.Bool.{Bool, true, false, _&&_, cond, and-eq-true-iff}
@@ -9,10 +9,10 @@ use native.Mathlib.Omega.{arith}
 use lib.ListN.{length, getD, length-append, List·getD-append}
 use lib.Seq.{getD-append-seam}
 use lib.Dec.{eqb, ltb}
-use borrow.Author.Tests.{eqb-true, ltb-true, eq-eqb, ne-eqb}
+use borrow.Author.Tests.{eqb-true, eqb-false, ltb-true, eq-eqb, ne-eqb}
 use Rattle.cuts.proofs.SumLaws.{all-suc}
 use Rattle.sheet.specs.Bytes.{Bytes}
-use Rattle.sheet.specs.Reading.{Check, firstFailing, Reading, accepted, refused, unless, andThen, records}
+use Rattle.sheet.specs.Reading.{Check, firstFailing, Reading, accepted, refused, numberOf, unless, andThen, records}
 
 -- what the check with the number n says: it fails
 abbrev pub failing : ℕ → List Check → Bool
@@ -71,6 +71,32 @@ pub andThen-accepted : {A B : Type 0} (r : Reading A) (next : A → Bytes → Re
     → (x : A) × (rest : Bytes) × (r ≡ accepted x rest) × (next x rest ≡ accepted y end)
 andThen-accepted (accepted x rest) next h = (x, rest, refl, h)
 andThen-accepted (refused n) next h = not-refused h
+
+-- a refusal's number is not 0
+abbrev pub Nonzero : {A : Type 0} → Reading A → Type 0
+Nonzero (accepted x rest) = Unit {0}
+Nonzero (refused n) = 0 < n
+
+pub unless-nonzero : {A : Type 0} (n : ℕ) (r : Reading A) → Nonzero r → Nonzero (unless n r)
+unless-nonzero n r h = step (eqb n 0) refl
+  where
+    step : (b : Bool) → eqb n 0 ≡ b → Nonzero (cond b r (refused n))
+    step true e = h
+    step false e = let z = eqb-false n 0 e in omega arith
+
+pub andThen-nonzero : {A B : Type 0} (r : Reading A) (next : A → Bytes → Reading B) → Nonzero r → ((x : A) (rest : Bytes) → Nonzero (next x rest)) → Nonzero (andThen r next)
+andThen-nonzero (accepted x rest) next h k = k x rest
+andThen-nonzero (refused n) next h k = h
+
+pub records-nonzero : {A : Type 0} (one : List A → Bytes → Reading A) → ((got : List A) (bs : Bytes) → Nonzero (one got bs))
+    → (k : ℕ) (got : List A) (bs : Bytes) → Nonzero (records one k got bs)
+unfolding records
+records-nonzero one h zero got bs = tt
+records-nonzero one h (suc k) got bs = andThen-nonzero (one got bs) _ (h got bs) (λ x rest. records-nonzero one h k (got ++ x ∷ []) rest)
+
+pub nonzero-accepted : {A : Type 0} (r : Reading A) → Nonzero r → numberOf r ≡ 0 → (x : A) × (rest : Bytes) × (r ≡ accepted x rest)
+nonzero-accepted (accepted x rest) h e = (x, rest, refl)
+nonzero-accepted (refused n) h e = absurd (omega arith)
 
 -- every entry of the list passes Q
 abbrev pub All : {A : Type 0} → A → (A → Type 0) → List A → Type 0
