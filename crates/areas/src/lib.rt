@@ -5,7 +5,7 @@ use crate::bytes::put_four;
 use crate::bytes::put_two;
 ghost use mathlib.Core.Path.{_≡_};
 ghost use mathlib.Core.List.{[], _∷_};
-ghost use Prim.Native.Nat.{ℕ, _+_, _≤_};
+ghost use Prim.Native.Nat.{_+_, _≤_};
 ghost use lib.ListN.{length};
 ghost use Rattle.cuts.specs.Sums.{countTo};
 ghost use Rattle.cuts.specs.Network.{flag};
@@ -13,6 +13,15 @@ ghost use Rattle.cuts.specs.Cut.{Side};
 ghost use Rattle.trees.specs.Marks.{marks};
 ghost use Rattle.sheet.specs.Bytes.{byteOf, fieldBytes};
 ghost use Rattle.sheet.specs.Areas.{sideBytes, reportWidths, written};
+
+// The bytes of a side area that are written.
+pub const SIDE_LENGTH: usize = 32;
+
+// The bytes of a report area that are written.
+pub const REPORT_LENGTH: usize = 16;
+
+// What a report has for the second link of a single one.
+pub const NO_SECOND: u16 = 65535;
 
 // The fields of the report area, in their order.
 pub struct Report {
@@ -39,7 +48,7 @@ pub fn count_marked(side: &[u8], nodes: usize) -> u16
     sum
 }
 
-// The byte of the eight marks at a position.
+// The byte of the eight marks at a position. The remainders keep the sum in a byte, whatever stands there.
 fn packed(side: &[u8], at: usize) -> u8
     requires { ⌜ (length (now side) ≡ 256) × (at + 8 ≤ 256) ⌝ }
     ensures { λ r. ⌜ ((s : Side) → now (side .entry) ≡ marks s → r ≡ byteOf (λ i. flag s (at + i))) ⌝ }
@@ -60,7 +69,7 @@ pub fn write_side(area: &mut [u8], side: &[u8])
     ensures { λ _. ⌜ ((s : Side) → now (side .entry) ≡ marks s → now (area .exit) ≡ written (sideBytes s) (now (area .entry))) ⌝ }
 {
     let mut j = 0;
-    while j < 32 {
+    while j < SIDE_LENGTH {
         area[j] = packed(side, 8 * j);
         j += 1;
     }

@@ -4,7 +4,7 @@ use Prim.Native.Nat.{ℕ, zero, suc, _+_, _*_, _≤_, _<_, min}
 use mathlib.Core.Path.{_≡_, refl, sym, _∙_}
 use mathlib.Core.Bool.{Bool, true, false, cond}
 use mathlib.Core.List.{List, [], _∷_, _++_}
-use native.Mathlib.Nat.{add-zero, zero-mul, suc-mul, mul-le-mul-right}
+use native.Mathlib.Nat.{add-zero, zero-mul, suc-mul}
 use native.Mathlib.Numerals.{add-one}
 use native.Mathlib.Decide.{decLt}
 use native.Mathlib.Omega.{arith}
@@ -20,7 +20,7 @@ use Rattle.trees.specs.Order.{entry}
 use Rattle.sheet.specs.Bytes.{Bytes, number, mapBit}
 use Rattle.sheet.specs.Sheet.{mapLength, treeLength, treeIn}
 use Rattle.reader.specs.Answers.{treesFrom}
-use Rattle.reader.proofs.TreeLaws.{members-at, treesFrom-more}
+use Rattle.reader.proofs.TreeLaws.{members-at, treesFrom-more, record-inside}
 
 -- ---- one tree's share
 
@@ -103,11 +103,7 @@ loaded-none s at links n e = record {
 module _ {s : Bytes} {at links : ℕ} {loads : List ℕ} {sum place i : ℕ} (l : Loaded s at links loads sum place i) where
   -- the next of `trees` records ends within the sheet
   pub record-within : (trees : ℕ) → i < trees → at + trees * treeLength links ≤ length s → place + treeLength links ≤ length s
-  record-within trees b h =
-      let m : suc i * treeLength links ≤ trees * treeLength links = mul-le-mul-right (treeLength links) b in
-      let n = suc-mul i (treeLength links) in
-      let p = l .placed in
-      omega arith
+  record-within trees b h = let r = record-inside at trees (treeLength links) (length s) i h b in let p = l .placed in omega arith
 
   pub loaded-more : (map : Bytes) (share : ℕ) (next : List ℕ) (end : ℕ) → map ≡ take (mapLength links) (drop (place + 4) s)
       → place + treeLength links ≤ length s → share ≡ number 4 (drop place s) → share < 4_294_967_296 → Added map share loads next links

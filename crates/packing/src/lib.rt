@@ -26,7 +26,7 @@ fn clear_loads(loads: &mut [u64])
     }
 }
 
-// Adds a tree's share to the load of each of its members.
+// Adds a tree's share to the load of each of its members. 137,438,953,472 is 2^37: 32 shares of four bytes are below it.
 fn add_share(loads: &mut [u64], map: &[u8], links: usize, share: u32)
     requires { ⌜ (links ≤ 8 * length (now map)) × (links ≤ length (now loads)) × ((k : ℕ) → entry (now loads) k ≤ 137_438_953_472) ⌝ }
     ensures { λ _. ⌜ ((k : ℕ) → k < links → entry (now (loads .exit)) k ≡ entry (now (loads .entry)) k + only (mapBit (now (map .entry)) k) share) ⌝ }

@@ -1,9 +1,10 @@
--- A tree record by its parts: the checks of its map, the map as a slice of the sheet, and what is read in each case.
+-- A tree record by its parts: the checks of its map, the map as a slice of the sheet, what is read in each case, and where it lies.
 -- Assumes nothing.
-use Prim.Native.Nat.{ℕ, _+_, _-_, _*_, _/_, _≤_, _<_}
+use Prim.Native.Nat.{ℕ, suc, _+_, _-_, _*_, _/_, _≤_, _<_}
 use mathlib.Core.Path.{_≡_, refl, sym, ap, _∙_}
 use mathlib.Core.Bool.{Bool, true, false, _&&_, not, cond}
 use mathlib.Core.List.{List, [], _∷_, _++_}
+use native.Mathlib.Nat.{suc-mul, mul-le-mul-right}
 use native.Mathlib.Numerals.{add-one}
 use native.Mathlib.Omega.{arith}
 use lib.ListN.{length, take, drop, length-drop}
@@ -167,3 +168,7 @@ module _ (net : Network) (s : Bytes) (from count at i : ℕ) (w : TreesRun net s
 
   pub trees-done : i ≡ count → accepted (treesFrom net count (drop from s)) (drop at s) ≡ records (λ _. treeRecord net) count [] (drop from s)
   trees-done e = rw e at (run-done w e)
+
+-- the record at place i of n behind one another
+pub record-inside : (at n size end i : ℕ) → at + n * size ≤ end → i < n → at + i * size + size ≤ end
+record-inside at n size end i h b = let l : suc i * size ≤ n * size = mul-le-mul-right size b in let e = suc-mul i size in omega arith

@@ -1,4 +1,10 @@
-// Document 01's refusal numbers of a sheet.
+// Document 01's refusal numbers.
+
+// The side area has fewer than 32 bytes.
+pub const SHORT_SIDE: u32 = 1;
+
+// The report area has fewer than 16 bytes.
+pub const SHORT_REPORT: u32 = 2;
 
 // The sheet has fewer than 5 bytes.
 pub const SHORT_HEADER: u32 = 3;

@@ -33,7 +33,7 @@ module _ (d : List ℕ) (at : ℕ) (s : List ℕ) (n : ℕ) where
       ∙ List·getD-append (take at d) (take n s) 0 i (omega arith)
       ∙ getD-take at d i 0 b
 
-  pub paste-next : at ≤ length d → n ≤ length s → entry (paste d at s n) (at + n) ≡ entry d (at + n)
+  paste-next : at ≤ length d → n ≤ length s → entry (paste d at s n) (at + n) ≡ entry d (at + n)
   paste-next l m =
       let p : List ℕ = take at d ++ take n s in
       let e : length p + 0 ≡ at + n = add-zero (length p) ∙ length-paste-head d at s n l m in
@@ -47,7 +47,7 @@ module _ (d : List ℕ) (at : ℕ) (s : List ℕ) (n : ℕ) where
 
 -- ---- the symmetric difference
 
-pub bitXor-only : (a b : Bool) → bitXor (only a 1) (only b 1) ≡ only (xor a b) 1
+bitXor-only : (a b : Bool) → bitXor (only a 1) (only b 1) ≡ only (xor a b) 1
 unfolding xor
 bitXor-only true true = refl
 bitXor-only true false = refl

@@ -24,7 +24,7 @@ pub struct Found {
 
 // The lightest of what was found before and the tree's candidates; of equal ones the first. The side of what is found stands as marks in
 // the last part of `work`; the rest of `work` and `singles` are work space.
-// Cost: for each member one pass over the nodes and one over the links, and as much for each pair whose single weights are less far
+// Cost: for each member a few passes over the nodes and one over the links, and as much for each pair whose single weights are less far
 // apart than the lightest found so far weighs.
 pub fn search_tree(
     work: &mut [u8],

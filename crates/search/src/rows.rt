@@ -7,7 +7,7 @@ use trees::below::mark_below;
 ghost use mathlib.Core.Path.{_≡_};
 ghost use mathlib.Core.Bool.{cond};
 ghost use mathlib.Core.List.{[], _∷_};
-ghost use Prim.Native.Nat.{ℕ, _+_, _-_, _≤_, _<_};
+ghost use Prim.Native.Nat.{_+_, _-_, _≤_, _<_};
 ghost use lib.ListN.{length, take, drop};
 ghost use Rattle.cuts.specs.First.{firstFrom};
 ghost use Rattle.cuts.specs.Network.{Network, Tree};
@@ -119,7 +119,8 @@ fn search_pair(
     }
 }
 
-// The lightest of what was found before and the member of rank `i` alone and with each later one; of equal ones the first.
+// The lightest of what was found before and the member of rank `i` alone and with each later one; of equal ones the first. The nodes
+// below that member are marked in two parts: they stay in the first, and are the side of the member alone in the second.
 pub fn search_row(
     work: &mut [u8],
     singles: &[u64],

@@ -2,7 +2,7 @@
 ghost use mathlib.Core.Path.{_≡_};
 ghost use mathlib.Core.List.{_++_};
 ghost use Prim.Native.Nat.{ℕ, _≤_};
-ghost use lib.ListN.{length, take, drop};
+ghost use lib.ListN.{length, take};
 ghost use Rattle.cuts.specs.Network.{Network};
 ghost use Rattle.cuts.specs.Cut.{Side, cutWeight, symDiff};
 ghost use Rattle.trees.specs.Marks.{marks};

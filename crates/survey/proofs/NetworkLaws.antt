@@ -44,6 +44,9 @@ module _ (s : Bytes) (fs ss ws : List ℕ) (c : Counts) (at : ℕ) where
     pub networkAt-trees-most : c .trees ≤ 32
     networkAt-trees-most = let e = networkAt-trees in let b = a .trees-most in omega arith
 
+    pub networkAt-trees-least : 0 < c .trees
+    networkAt-trees-least = let e = networkAt-trees in let b = a .sound .listed in omega arith
+
   module _ (v : Sound (networkAt s fs ss ws c at)) where
     pub networkAt-laid : Laid (networkAt s fs ss ws c at) fs ss ws (c .nodes) (c .links)
     networkAt-laid = record {

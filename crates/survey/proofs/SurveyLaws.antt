@@ -1,10 +1,9 @@
 -- Tree records by the map in each, a grown tree that spans as one ready to be searched, and the candidates of the trees still to come.
 -- Assumes nothing.
-use Prim.Native.Nat.{ℕ, suc, _+_, _-_, _*_, _/_, _≤_, _<_}
+use Prim.Native.Nat.{ℕ, _+_, _-_, _*_, _/_, _≤_, _<_}
 use mathlib.Core.Path.{_≡_, refl, sym, ap, _∙_, subst}
 use mathlib.Core.Bool.{Bool, true}
 use mathlib.Core.List.{List, [], _++_, append-nil, List·Memᴰ}
-use native.Mathlib.Nat.{suc-mul, mul-le-mul-right}
 use native.Mathlib.Numerals.{add-one}
 use native.Mathlib.Omega.{arith}
 use lib.ListN.{length, take, drop, replicate, length-drop, length-replicate, getD-replicate}
@@ -55,10 +54,6 @@ module _ (s : Bytes) (at links : ℕ) where
     mapAt-members net n =
         members-at net s (mapAt s at links) at (mapAt-is ∙ ap (λ (i : ℕ). take (mapLength i) (drop (at + 4) s)) (sym n)) (rw n whole)
         ∙ ap (λ (i : ℕ). table i (mapBit (mapAt s at links))) n
-
--- the record at place i of n behind one another
-pub record-inside : (at n size end i : ℕ) → at + n * size ≤ end → i < n → at + i * size + size ≤ end
-record-inside at n size end i h b = let l : suc i * size ≤ n * size = mul-le-mul-right size b in let e = suc-mul i size in omega arith
 
 pub ready-spanning : {net : Network} {t : Tree} {members order parents uplinks : List ℕ} {all : Bool} → Spanning net t
     → ReadyTree net t members order parents uplinks all → Ready net t members order parents uplinks

@@ -1,4 +1,5 @@
--- A side as an array has it: a number for each of the 256 nodes that there may be. Assumes nothing.
+-- A side as an array has it: a number for each of the 256 nodes that there may be. Demand 3's mark of a cut is another thing, the
+-- verdict. Assumes nothing.
 --   marks s    1 for each node of the side s, 0 for every other
 use Prim.Native.Nat.{ℕ}
 use mathlib.Core.List.{List}

@@ -13,8 +13,9 @@ use Rattle.sheet.specs.Sheet.{treeLength}
 use Rattle.records.specs.Answers.{countsOf}
 use Rattle.reader.specs.Answers.{TreeArrays, networkAt}
 use Rattle.search.specs.Found.{Says, candidatesOf}
-use Rattle.survey.proofs.NetworkLaws.{networkAt-links-most, networkAt-trees-most, networkAt-trees, networkAt-tree, networkAt-laid, networkAt-spanning, networkAt-counted}
-use Rattle.survey.proofs.SurveyLaws.{record-inside, TreesToward, trees-start, trees-more, trees-done, cleared-says}
+use Rattle.reader.proofs.TreeLaws.{record-inside}
+use Rattle.survey.proofs.NetworkLaws.{networkAt-links-most, networkAt-trees-most, networkAt-trees-least, networkAt-trees, networkAt-tree, networkAt-laid, networkAt-spanning, networkAt-counted}
+use Rattle.survey.proofs.SurveyLaws.{TreesToward, trees-start, trees-more, trees-done, cleared-says}
 use Rattle.survey.proofs.search_trees.Statement.{statement}
 use Rattle.survey.proofs.search_trees.Tie as tie
 
@@ -43,9 +44,12 @@ few-links c = let a = c .args in networkAt-links-most (a .s .now) (a .firsts .no
 few-trees : (c : tie.Start Inv-loop μ-loop) → c .args .c .trees ≤ 32
 few-trees c = let a = c .args in networkAt-trees-most (a .s .now) (a .firsts .now) (a .seconds .now) (a .weights .now) (countsOf (a .c)) (a .at) (c .pre .0 .1)
 
+some-tree : (c : tie.Start Inv-loop μ-loop) → 0 < c .args .c .trees
+some-tree c = let a = c .args in networkAt-trees-least (a .s .now) (a .firsts .now) (a .seconds .now) (a .weights .now) (countsOf (a .c)) (a .at) (c .pre .0 .1)
+
 -- there is a tree to search
 more : (c : tie.In-loop Inv-loop μ-loop) → c .before .loop .i < start (c .before) .args .c .trees
-more c = let l = c .loop-test .taken in omega arith
+more c = let l = c .loop-test .taken in let z = some-tree (start (c .before)) in omega arith
 
 -- its record lies in the sheet
 inside : (c : tie.In-loop Inv-loop μ-loop) → let a = start (c .before) .args in
@@ -114,7 +118,7 @@ add-i : tie.Need-add-i Inv-loop μ-loop
 add-i c = let t = test (c .before .before .before .before .before .before .before .before .before .before .before .before) in let b = few-trees (start (t .before)) in let l = more t in omega arith
 
 loop-less : tie.Need-loop-less Inv-loop μ-loop
-loop-less c = omega arith
+loop-less c = let l = more (test (c .before .before .before .before .before .before .before .before .before .before .before .before)) in omega arith
 
 -- what `search_record` found, of the tree itself
 searched : (c : tie.After-search-record Inv-loop μ-loop) → let l = test c .before .loop in let m = net (start (test c .before)) in let t = treeAt m (l .i) in

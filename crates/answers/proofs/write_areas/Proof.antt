@@ -1,0 +1,76 @@
+-- `answers::write_areas` meets its contract: what it writes are the side's bytes and the fields of the answer. Assumes nothing.
+use mathlib.Core.Path.{sym, ap, _∙_}
+use native.Mathlib.Omega.{arith}
+use Rattle.sheet.specs.Bytes.{Bytes}
+use Rattle.sheet.specs.Areas.{written}
+use Rattle.answers.proofs.ReportLaws.{report-fields}
+use Rattle.answers.proofs.write_areas.Statement.{statement}
+use Rattle.answers.proofs.write_areas.Tie as tie
+
+-- the places on the way, each from a later one: the entry, where the side is written, and where the nodes are counted
+abbrev start : tie.After-write-side-arg → tie.Start
+start c = c .before .before .before .before
+
+abbrev side : tie.After-slice-known3 → tie.After-write-side
+side c = c .before .before
+
+abbrev counted : tie.After-struct-known → tie.After-count-marked
+counted c = c .before .before .before
+
+write-side-requires : tie.Need-write-side-requires
+write-side-requires c κs = let p = start c .pre in (p .0 .2, p .0 .0)
+
+count-marked-requires : tie.Need-count-marked-requires
+count-marked-requires c κs = let p = start (side c .before) .pre in (p .0 .2, p .0 .3)
+
+verdict-requires : tie.Need-verdict-requires
+verdict-requires c κs = tt
+
+second-link-requires : tie.Need-second-link-requires
+second-link-requires c κs = tt
+
+cast-t14 : tie.Need-cast-t14
+cast-t14 c = let p = start (side (counted c .before) .before) .pre .1 in omega (arith, p .0, p .1)
+
+cast-t15 : tie.Need-cast-t15
+cast-t15 c = let p = start (side (counted c .before) .before) .pre .1 in omega (arith, p .0, p .1)
+
+write-report-requires : tie.Need-write-report-requires
+write-report-requires c κs = start (side (counted (c .before) .before) .before) .pre .0 .1
+
+same-length : tie.Need-same-length
+same-length c = side (counted (c .before .before .before .before) .before) .write-side .kept .0
+
+same-length-2 : tie.Need-same-length-2
+same-length-2 c = c .before .before .write-report .kept .0
+
+returns : tie.Need-returns
+returns c =
+    let told = c .before .before .before .before in
+    let wrote = side (counted told .before) in
+    let a = start (wrote .before) .args in
+    λ answer says count floor verdict. (
+      wrote .write-side .ensures (answer .best .side) (says .side),
+      c .before .before .write-report .ensures
+          ∙ ap (λ (bs : Bytes). written bs (a .report .now))
+          (report-fields (a .found) (a .marks .now) answer says _ _ _ _
+          (verdict ∙ sym (told .before .before .verdict .ensures))
+          (count ∙ sym (counted told .count-marked .ensures (answer .best .side) (says .side)))
+          (told .before .second-link .ensures)
+          floor),
+    )
+
+pub write-areas-spec : {M : Type 1} → statement M
+write-areas-spec =
+    tie.close
+    (tie.spec
+    write-side-requires
+    count-marked-requires
+    verdict-requires
+    second-link-requires
+    cast-t14
+    cast-t15
+    write-report-requires
+    same-length
+    same-length-2
+    returns)
