@@ -13,7 +13,8 @@ use Rattle.monitor.specs.Entry.{sideLeft, reportLeft}
 use Rattle.monitor.proofs.report_in.Statement.{statement}
 use Rattle.monitor.proofs.report_in.Tie as tie
 
--- the places on the way, each from a later one: the entry, where the sheet was read, and where the answer was written
+-- the places on the way, each from a later one: the entry, where the sheet was read, where it told what was read, and where the answer
+-- was written
 abbrev start : tie.After-read-sheet → tie.Start
 start c = c .before .before .before .before .before .before .before .before .before .before .before .before .before .before .before .before .before .before .before .before .before .before
 
@@ -22,6 +23,9 @@ read c = c .before .before .before .before .before .before .before .before .befo
 
 abbrev told : tie.After-write-answer-arg12 → tie.After-c
 told c = c .before .before .before .before .before .before .before .before .before .before .before .before .before
+
+abbrev wrote : tie.After-slice-known29 → tie.After-write-answer
+wrote c = c .before .before .before .before .before .before .before .before .before .before .before .before .before .before .before .before .before .before
 
 read-sheet-requires : tie.Need-read-sheet-requires
 read-sheet-requires c κs = let p = c .before .before .before .before .before .before .before .before .before .before .before .before .before .before .before .before .before .before .before .before .before .pre in ((p .1 .0 .0, p .1 .0 .1, p .1 .0 .2), p .1 .1)
@@ -63,46 +67,46 @@ enum-known-n : tie.Need-enum-known-n
 enum-known-n c = c .match .keys2
 
 same-length : tie.Need-same-length
-same-length c = c .before .before .before .before .before .before .before .before .before .before .before .before .before .before .before .before .before .before .write-answer .kept .1 .1 .1 .0
+same-length c = wrote c .write-answer .kept .1 .1 .1 .0
 
 same-length-2 : tie.Need-same-length-2
-same-length-2 c = c .before .before .before .before .before .before .before .before .before .before .before .before .before .before .before .before .before .before .write-answer .kept .1 .1 .1 .1 .0
+same-length-2 c = wrote c .write-answer .kept .1 .1 .1 .1 .0
 
 same-length-3 : tie.Need-same-length-3
-same-length-3 c = read (told (c .before .before .before .before .before .before .before .before .before .before .before .before .before .before .before .before .before .before .before) .before .before) .read-sheet .kept .1 .0
+same-length-3 c = read (told (wrote c .before) .before .before) .read-sheet .kept .1 .0
 
 same-length-4 : tie.Need-same-length-4
-same-length-4 c = read (told (c .before .before .before .before .before .before .before .before .before .before .before .before .before .before .before .before .before .before .before) .before .before) .read-sheet .kept .1 .1 .0
+same-length-4 c = read (told (wrote c .before) .before .before) .read-sheet .kept .1 .1 .0
 
 same-length-5 : tie.Need-same-length-5
-same-length-5 c = read (told (c .before .before .before .before .before .before .before .before .before .before .before .before .before .before .before .before .before .before .before) .before .before) .read-sheet .kept .1 .1 .1 .0
+same-length-5 c = read (told (wrote c .before) .before .before) .read-sheet .kept .1 .1 .1 .0
 
 same-length-6 : tie.Need-same-length-6
-same-length-6 c = c .before .before .before .before .before .before .before .before .before .before .before .before .before .before .before .before .before .before .write-answer .kept .1 .1 .1 .1 .1 .1 .1 .1 .0
+same-length-6 c = wrote c .write-answer .kept .1 .1 .1 .1 .1 .1 .1 .1 .0
 
 same-length-7 : tie.Need-same-length-7
-same-length-7 c = c .before .before .before .before .before .before .before .before .before .before .before .before .before .before .before .before .before .before .write-answer .kept .1 .1 .1 .1 .1 .1 .1 .1 .1 .0
+same-length-7 c = wrote c .write-answer .kept .1 .1 .1 .1 .1 .1 .1 .1 .1 .0
 
 same-length-8 : tie.Need-same-length-8
-same-length-8 c = c .before .before .before .before .before .before .before .before .before .before .before .before .before .before .before .before .before .before .write-answer .kept .1 .1 .1 .1 .1 .1 .1 .1 .1 .1 .0 ∙ read (told (c .before .before .before .before .before .before .before .before .before .before .before .before .before .before .before .before .before .before .before) .before .before) .read-sheet .kept .1 .1 .1 .1 .0
+same-length-8 c = wrote c .write-answer .kept .1 .1 .1 .1 .1 .1 .1 .1 .1 .1 .0 ∙ read (told (wrote c .before) .before .before) .read-sheet .kept .1 .1 .1 .1 .0
 
 same-length-9 : tie.Need-same-length-9
-same-length-9 c = c .before .before .before .before .before .before .before .before .before .before .before .before .before .before .before .before .before .before .write-answer .kept .1 .1 .1 .1 .1 .1 .1 .1 .1 .1 .1 .0 ∙ read (told (c .before .before .before .before .before .before .before .before .before .before .before .before .before .before .before .before .before .before .before) .before .before) .read-sheet .kept .1 .1 .1 .1 .1 .0
+same-length-9 c = wrote c .write-answer .kept .1 .1 .1 .1 .1 .1 .1 .1 .1 .1 .1 .0 ∙ read (told (wrote c .before) .before .before) .read-sheet .kept .1 .1 .1 .1 .1 .0
 
 same-length-10 : tie.Need-same-length-10
-same-length-10 c = c .before .before .before .before .before .before .before .before .before .before .before .before .before .before .before .before .before .before .write-answer .kept .1 .1 .1 .1 .1 .1 .1 .1 .1 .1 .1 .1 .0 ∙ read (told (c .before .before .before .before .before .before .before .before .before .before .before .before .before .before .before .before .before .before .before) .before .before) .read-sheet .kept .1 .1 .1 .1 .1 .1 .0
+same-length-10 c = wrote c .write-answer .kept .1 .1 .1 .1 .1 .1 .1 .1 .1 .1 .1 .1 .0 ∙ read (told (wrote c .before) .before .before) .read-sheet .kept .1 .1 .1 .1 .1 .1 .0
 
 same-length-11 : tie.Need-same-length-11
-same-length-11 c = c .before .before .before .before .before .before .before .before .before .before .before .before .before .before .before .before .before .before .write-answer .kept .1 .1 .1 .1 .1 .1 .1 .1 .1 .1 .1 .1 .1 .0 ∙ read (told (c .before .before .before .before .before .before .before .before .before .before .before .before .before .before .before .before .before .before .before) .before .before) .read-sheet .kept .1 .1 .1 .1 .1 .1 .1 .0
+same-length-11 c = wrote c .write-answer .kept .1 .1 .1 .1 .1 .1 .1 .1 .1 .1 .1 .1 .1 .0 ∙ read (told (wrote c .before) .before .before) .read-sheet .kept .1 .1 .1 .1 .1 .1 .1 .0
 
 same-length-12 : tie.Need-same-length-12
-same-length-12 c = c .before .before .before .before .before .before .before .before .before .before .before .before .before .before .before .before .before .before .write-answer .kept .1 .1 .1 .1 .1 .1 .1 .1 .1 .1 .1 .1 .1 .1 .0 ∙ read (told (c .before .before .before .before .before .before .before .before .before .before .before .before .before .before .before .before .before .before .before) .before .before) .read-sheet .kept .1 .1 .1 .1 .1 .1 .1 .1 .0
+same-length-12 c = wrote c .write-answer .kept .1 .1 .1 .1 .1 .1 .1 .1 .1 .1 .1 .1 .1 .1 .0 ∙ read (told (wrote c .before) .before .before) .read-sheet .kept .1 .1 .1 .1 .1 .1 .1 .1 .0
 
 returns : tie.Need-returns
 returns c =
-    let t = told (c .before .before .before .before .before .before .before .before .before .before .before .before .before .before .before .before .before .before .before) in
+    let t = told (wrote c .before) in
     let a = start (read (t .before .before)) .args in
-    let w = c .before .before .before .before .before .before .before .before .before .before .before .before .before .before .before .before .before .before .write-answer in
+    let w = wrote c .write-answer in
     let e = sheet-says (read (t .before .before)) _ (t .c .given .1) in
     (ap numberOf e, w .ensures .0 ∙ ap (sideLeft (a .side .now)) e, w .ensures .1 ∙ ap (reportLeft (a .report .now)) e)
 

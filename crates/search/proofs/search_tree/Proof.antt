@@ -24,6 +24,13 @@ Inv-loop work₀ singles firsts seconds weights members order parents uplinks no
 abbrev μ-loop : tie.MeasureT-loop
 μ-loop work₀ singles firsts seconds weights members order parents uplinks nodes links tree best₀ i₀ work best i = nodes - i
 
+-- the places on the way, each from a later one: the entry, and where the single weights were worked out
+abbrev start : tie.After-weigh-singles Inv-loop μ-loop → tie.Start Inv-loop μ-loop
+start c = c .before .before .before .before .before .before .before .before .before .before .before .before
+
+abbrev weighed : tie.At-loop Inv-loop μ-loop → tie.After-weigh-singles Inv-loop μ-loop
+weighed c = c .before .before .before .before .before
+
 sub-weigh-singles : tie.Need-sub-weigh-singles Inv-loop μ-loop
 sub-weigh-singles c = omega arith
 
@@ -41,7 +48,7 @@ weigh-singles-requires c κs =
 loop-holds : tie.Need-loop-holds Inv-loop μ-loop
 loop-holds c =
     let b = c .before .before .before in
-    let q = b .before .before .before .before .before .before .before .before .before .before .before .before .before .pre in
+    let q = start (b .before) .pre in
     (b .work .given .1 ∙ q .0 .0, omega arith, λ net t x laid ready weighed says. toward-start _ says)
 
 sub-loop : tie.Need-sub-loop Inv-loop μ-loop
@@ -50,11 +57,11 @@ sub-loop c = omega arith
 search-row-requires : tie.Need-search-row-requires Inv-loop μ-loop
 search-row-requires c κs =
     let b = c .before .before .before in
-    let q = b .before .before .before .before .before .before .before .before .before .before .before .before .before .before .before .before .before .pre in
+    let q = start (weighed b) .pre in
     ((b .loop .inv .0, b .before .before .singles .given ∙ q .0 .1, q .0 .3, q .0 .4), ((q .1 .0 .0, q .1 .0 .1, q .1 .0 .2, omega (arith, c .before .before .loop-test .taken)), q .1 .1))
 
 add-i : tie.Need-add-i Inv-loop μ-loop
-add-i c = let q = c .before .before .before .before .before .before .before .before .before .before .before .before .before .before .before .before .before .before .before .before .before .before .before .pre in omega arith
+add-i c = let q = start (weighed (c .before .before .before .before .before .before)) .pre in omega arith
 
 loop-less : tie.Need-loop-less Inv-loop μ-loop
 loop-less c = omega arith
@@ -63,7 +70,7 @@ loop-again : tie.Need-loop-again Inv-loop μ-loop
 loop-again c =
     let b = c .before .before .before .before .before .before in
     let l = b .loop in
-    let s = b .before .before .before .before .before .before .before .before .before .before .before .before .before .before .before .before .before in
+    let s = start (weighed b) in
     let r = c .before .before .search-row in
     let q = s .pre in
     let taken = c .before .before .before .before .before .loop-test .taken in (
@@ -76,7 +83,7 @@ loop-again c =
     )
 
 same-length : tie.Need-same-length Inv-loop μ-loop
-same-length c = let l = c .before .loop in omega (arith, l .inv .0, c .before .before .before .before .before .before .before .before .before .before .before .before .before .before .before .before .before .before .pre .0 .0)
+same-length c = let l = c .before .loop in omega (arith, l .inv .0, start (weighed (c .before)) .pre .0 .0)
 
 same-length-2 : tie.Need-same-length-2 Inv-loop μ-loop
 same-length-2 c = c .before .before .before .singles .given
@@ -86,8 +93,8 @@ unfolding handles
 returns c =
     λ net t x laid ready says.
     let l = c .before .loop in
-    let b = c .before .before .before .before .before .before in
-    let s = b .before .before .before .before .before .before .before .before .before .before .before .before in
+    let b = weighed (c .before) in
+    let s = start b in
     let q = s .pre in
     let w = b .weigh-singles in
     let n : net .nodes ≡ s .args .nodes = laid .held .sized in

@@ -32,6 +32,20 @@ Inv-loop work₀ singles firsts seconds weights members order parents uplinks no
 abbrev μ-loop : tie.MeasureT-loop
 μ-loop work₀ singles firsts seconds weights members order parents uplinks nodes links tree i link best₀ j₀ work best j = nodes - j
 
+-- the places on the way, each from a later one: the entry, where the nodes below the member were marked, first and second, and where
+-- the member alone was tried
+abbrev start : tie.After-mark-below Inv-loop μ-loop → tie.Start Inv-loop μ-loop
+start c = c .before .before .before .before .before .before .before .before .before .before .before .before
+
+abbrev first : tie.After-mark-below2 Inv-loop μ-loop → tie.After-mark-below Inv-loop μ-loop
+first c = c .before .before .before .before
+
+abbrev second : tie.After-lighter-one Inv-loop μ-loop → tie.After-mark-below2 Inv-loop μ-loop
+second c = c .before .before .before .before .before
+
+abbrev single : tie.At-loop Inv-loop μ-loop → tie.After-lighter-one Inv-loop μ-loop
+single c = c .before .before .before
+
 mul-link : tie.Need-mul-link Inv-loop μ-loop
 mul-link c = omega arith
 
@@ -59,18 +73,18 @@ part-mark-below-start-2 : tie.Need-part-mark-below-start-2 Inv-loop μ-loop
 part-mark-below-start-2 c = omega arith
 
 part-mark-below-end-2 : tie.Need-part-mark-below-end-2 Inv-loop μ-loop
-part-mark-below-end-2 c = omega (arith, c .before .work .given .1, c .before .before .before .before .before .before .before .before .before .before .before .before .before .before .pre .0 .0)
+part-mark-below-end-2 c = omega (arith, c .before .work .given .1, start (c .before .before) .pre .0 .0)
 
 mark-below-requires-2 : tie.Need-mark-below-requires-2 Inv-loop μ-loop
 mark-below-requires-2 c κs =
-    let q = c .before .before .before .before .before .before .before .before .before .before .before .before .before .before .before .pre in
+    let q = start (c .before .before .before) .pre in
     ((c .mark-below-arg2 .given .2, q .1 .1 .1, q .1 .1 .2, q .1 .1 .3), q .0 .2)
 
 mul-t19 : tie.Need-mul-t19 Inv-loop μ-loop
-mul-t19 c = let q = c .before .before .before .before .before .before .before .before .before .before .before .before .before .before .before .before .before .before .pre in omega arith
+mul-t19 c = let q = start (first (c .before .before)) .pre in omega arith
 
 shared-slice-read-t30 : tie.Need-shared-slice-read-t30 Inv-loop μ-loop
-shared-slice-read-t30 c = let q = c .before .before .before .before .before .before .before .before .before .before .before .before .before .before .before .before .before .before .before .pre in omega arith
+shared-slice-read-t30 c = let q = start (first (c .before .before .before)) .pre in omega arith
 
 sub-lighter-one : tie.Need-sub-lighter-one Inv-loop μ-loop
 sub-lighter-one c = omega arith
@@ -82,20 +96,20 @@ part-lighter-one-end : tie.Need-part-lighter-one-end Inv-loop μ-loop
 part-lighter-one-end c =
     let b2 = c .before .before in
     let b1 = b2 .before .before .before .before in
-    omega (arith, b2 .work2 .given .1, b1 .work .given .1, b1 .before .before .before .before .before .before .before .before .before .before .before .before .before .pre .0 .0)
+    omega (arith, b2 .work2 .given .1, b1 .work .given .1, start (b1 .before) .pre .0 .0)
 
 lighter-one-requires : tie.Need-lighter-one-requires Inv-loop μ-loop
 lighter-one-requires c κs = c .lighter-one-arg .given .2
 
 add-j : tie.Need-add-j Inv-loop μ-loop
-add-j c = let q = c .before .before .before .before .before .before .before .before .before .before .before .before .before .before .before .before .before .before .before .before .before .before .before .pre in omega arith
+add-j c = let q = start (first (second (c .before .before))) .pre in omega arith
 
 loop-holds : tie.Need-loop-holds Inv-loop μ-loop
 loop-holds c =
     let b3 = c .before in
     let b2 = b3 .before .before .before .before .before in
     let b1 = b2 .before .before .before .before in
-    let q = b1 .before .before .before .before .before .before .before .before .before .before .before .before .before .pre in (
+    let q = start (b1 .before) .pre in (
       omega (arith, b3 .work3 .given .1, b2 .work2 .given .1, b1 .work .given .1),
       omega arith,
       omega arith,
@@ -103,17 +117,17 @@ loop-holds c =
     )
 
 sub-loop : tie.Need-sub-loop Inv-loop μ-loop
-sub-loop c = let q = c .before .before .before .before .before .before .before .before .before .before .before .before .before .before .before .before .before .before .before .before .before .before .before .before .pre in omega arith
+sub-loop c = let q = start (first (second (single c))) .pre in omega arith
 
 search-pair-requires : tie.Need-search-pair-requires Inv-loop μ-loop
 search-pair-requires c κs =
     let b = c .before .before in
     let l = b .loop in
-    let q = b .before .before .before .before .before .before .before .before .before .before .before .before .before .before .before .before .before .before .before .before .before .before .before .before .pre in
+    let q = start (first (second (single b))) .pre in
     ((l .inv .0, q .0 .1, q .0 .2, q .0 .3), ((q .1 .0 .0, q .1 .0 .1, q .1 .0 .2, l .inv .1, omega (arith, c .before .loop-test .taken)), q .1 .1))
 
 add-j-2 : tie.Need-add-j-2 Inv-loop μ-loop
-add-j-2 c = let q = c .before .before .before .before .before .before .before .before .before .before .before .before .before .before .before .before .before .before .before .before .before .before .before .before .before .before .before .before .before .pre in omega arith
+add-j-2 c = let q = start (first (second (single (c .before .before .before .before .before)))) .pre in omega arith
 
 loop-less : tie.Need-loop-less Inv-loop μ-loop
 loop-less c = let l = c .before .before .before .before .loop-test .taken in omega arith
@@ -122,7 +136,7 @@ loop-again : tie.Need-loop-again Inv-loop μ-loop
 loop-again c =
     let b = c .before .before .before .before .before in
     let l = b .loop in
-    let s = b .before .before .before .before .before .before .before .before .before .before .before .before .before .before .before .before .before .before .before .before .before .before .before .before in
+    let s = start (first (second (single b))) in
     let r = c .before .before .search-pair in
     let q = s .pre in
     let taken = c .before .before .before .before .loop-test .taken in (
@@ -141,17 +155,17 @@ loop-again c =
     )
 
 same-length : tie.Need-same-length Inv-loop μ-loop
-same-length c = let l = c .before .loop in omega (arith, l .inv .0, c .before .before .before .before .before .before .before .before .before .before .before .before .before .before .before .before .before .before .before .before .before .before .before .before .before .pre .0 .0)
+same-length c = let l = c .before .loop in omega (arith, l .inv .0, start (first (second (single (c .before)))) .pre .0 .0)
 
 returns : tie.Need-returns Inv-loop μ-loop
 unfolding firstFrom
 returns c =
     λ net t x laid ready weighed says.
     let l = c .before .loop in
-    let b3 = c .before .before .before .before in
-    let b2 = b3 .before .before .before .before .before in
-    let b1 = b2 .before .before .before .before in
-    let s = b1 .before .before .before .before .before .before .before .before .before .before .before .before in
+    let b3 = single (c .before) in
+    let b2 = second b3 in
+    let b1 = first b2 in
+    let s = start b1 in
     let m = b1 .mark-below in
     let m2 = b2 .mark-below2 in
     let o = b3 .lighter-one in

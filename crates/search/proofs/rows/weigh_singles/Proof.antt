@@ -27,6 +27,10 @@ Inv-loop part₀ singles₀ firsts seconds weights members order parents uplinks
 abbrev μ-loop : tie.MeasureT-loop
 μ-loop part₀ singles₀ firsts seconds weights members order parents uplinks nodes links i₀ part singles i = nodes - i
 
+-- the entry, from the loop
+abbrev start : tie.At-loop Inv-loop μ-loop → tie.Start Inv-loop μ-loop
+start c = c .before .before .before .before .before .before .before .before .before .before
+
 loop-holds : tie.Need-loop-holds Inv-loop μ-loop
 loop-holds c =
     let q = c .before .before .before .before .before .before .before .before .before .pre in
@@ -44,13 +48,13 @@ shared-slice-read-mark-below c = omega arith
 mark-below-requires : tie.Need-mark-below-requires Inv-loop μ-loop
 mark-below-requires c κs =
     let b = c .before .before .before in
-    let q = b .before .before .before .before .before .before .before .before .before .before .pre in
+    let q = start b .pre in
     ((b .loop .inv .0, q .1 .1 .1, q .1 .1 .2, q .1 .1 .3), q .0 .3)
 
 weigh-requires : tie.Need-weigh-requires Inv-loop μ-loop
 weigh-requires c κs =
     let b = c .before .before .before .before .before .before .before in
-    let q = b .before .before .before .before .before .before .before .before .before .before .pre in
+    let q = start b .pre in
     ((c .before .before .part .given ∙ b .loop .inv .0, q .0 .4), q .1 .0)
 
 mul-singles : tie.Need-mul-singles Inv-loop μ-loop
@@ -70,7 +74,7 @@ unfolding weightOf
 loop-again c =
     let b = c .before .before .before .before .before .before .before .before in
     let l = b .loop in
-    let s = b .before .before .before .before .before .before .before .before .before .before in
+    let s = start b in
     let m = c .before .before .before .before .mark-below in
     let w = c .weigh in
     let q = s .pre in
@@ -89,10 +93,10 @@ loop-again c =
     )
 
 same-length : tie.Need-same-length Inv-loop μ-loop
-same-length c = let l = c .before .loop in omega (arith, l .inv .0, c .before .before .before .before .before .before .before .before .before .before .before .pre .0 .0)
+same-length c = let l = c .before .loop in omega (arith, l .inv .0, start (c .before) .pre .0 .0)
 
 same-length-2 : tie.Need-same-length-2 Inv-loop μ-loop
-same-length-2 c = let l = c .before .loop in omega (arith, l .inv .1, c .before .before .before .before .before .before .before .before .before .before .before .pre .0 .1)
+same-length-2 c = let l = c .before .loop in omega (arith, l .inv .1, start (c .before) .pre .0 .1)
 
 returns : tie.Need-returns Inv-loop μ-loop
 returns c =
