@@ -18,7 +18,7 @@ extern "C" {
 /* Sizes. */
 #define WCUT_SIDE_BYTES 32       /* the side area: node k is bit k % 8 of byte k / 8 */
 #define WCUT_REPORT_BYTES 16     /* the report area, laid out as below */
-#define WCUT_LONGEST_SHEET 26757 /* no longer sheet is accepted */
+#define WCUT_LONGEST_SHEET 26757 /* a sheet of more bytes is refused */
 #define WCUT_MOST_NODES 256
 #define WCUT_MOST_LINKS 2048
 #define WCUT_MOST_TREES 32

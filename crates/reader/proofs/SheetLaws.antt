@@ -13,10 +13,10 @@ use Rattle.trees.specs.Growing.{Held}
 use Rattle.sheet.specs.Bytes.{Bytes}
 use Rattle.sheet.specs.Reading.{Check, check, firstFailing, accepted, refused, records}
 use Rattle.sheet.specs.Sheet.{Counts, countsIn, countChecks, headerRecord, base, nextLink, treeRecord, network, decodeBody, decode}
-use Rattle.records.specs.Answers.{linksOf}
+use Rattle.links.specs.Answers.{linksOf}
 use Rattle.sheet.proofs.ReadingLaws.{passed, unless-accepted, records-all}
 use Rattle.sheet.proofs.Acceptance.{GoodLink, good-link}
-use Rattle.records.proofs.LinksLaws.{linksOf-length, linksOf-at}
+use Rattle.links.proofs.LinksLaws.{linksOf-length, linksOf-at}
 
 -- arrays that hold the links read hold a network of nodes
 pub held-links : (nodes m : ℕ) (fs ss ws : List ℕ) (bs rest : Bytes) → 0 < nodes → accepted (linksOf m fs ss ws) rest ≡ records (nextLink base nodes) m [] bs

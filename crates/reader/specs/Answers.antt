@@ -20,7 +20,8 @@ use Rattle.trees.specs.Growing.{GrownTree}
 use Rattle.sheet.specs.Bytes.{Bytes}
 use Rattle.sheet.specs.Reading.{Reading, accepted, refused}
 use Rattle.sheet.specs.Sheet.{Counts, treeLength, treeIn, network}
-use Rattle.records.specs.Answers.{countsOf, linksOf}
+use Rattle.records.specs.Answers.{countsOf}
+use Rattle.links.specs.Answers.{linksOf}
 use Rattle.reader.specs.declared.Outcome.{Outcome}
 use Rattle.reader.specs.declared.Outcome.the-variants.{Read, Refused}
 

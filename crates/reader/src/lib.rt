@@ -2,12 +2,12 @@
 pub mod tree_records; // tree records
 
 use crate::tree_records::read_trees;
+use links::read_links;
 use records::Step;
 use records::header::Counts;
 use records::header::Header;
 use records::header::read_header;
 use records::limits::HEADER_LENGTH;
-use records::links::read_links;
 use records::refusals;
 ghost use mathlib.Core.Path.{_≡_};
 ghost use Prim.Native.Nat.{_≤_, _<_};

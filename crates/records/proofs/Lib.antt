@@ -1,3 +1,2 @@
-pub mod RecordLaws
-pub mod LinksLaws
+pub mod HeaderLaws
 pub mod MapLaws

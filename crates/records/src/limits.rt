@@ -9,8 +9,3 @@ pub const MOST_NODES: usize = 256;
 pub const MOST_LINKS: usize = 2048;
 
 pub const MOST_TREES: usize = 32;
-
-// The map byte of a link with all its fields.
-pub const ALL_FIELDS: u8 = 7;
-
-pub const MOST_WEIGHT: u32 = 1000000;

@@ -1,9 +1,8 @@
--- What a search keeps and what it goes by: the lightest candidate found so far, with its side as marks, and a network and a tree as the
--- arrays have them. Assumes nothing.
+-- What a search keeps and what it goes by: the lightest candidate found so far, with its side as marks, and a tree as the arrays have
+-- it. Assumes nothing.
 --   chosen e f                the handle that two link numbers name: one link where they are equal
 --   Says found part c         `found`, with the marks in `part`, says the candidate c
 --   unfound                   where a search starts: heavier than every candidate
---   Laid net fs ss ws n m     the arrays hold the network, of n nodes and m links: first ends in fs, second ends in ss, weights in ws
 --   Ready net t ms o p l      the tree t spans, ms begins with its members, rising, and o, p and l order its nodes
 --   Weighed net t ms ws       ws has the single weight of each of the members ms
 --   candidatesOf net i t hs   the candidates of the handles hs of tree i, which is t
@@ -13,11 +12,10 @@ use mathlib.Core.Bool.{cond}
 use mathlib.Core.List.{List, [], map}
 use lib.ListN.{take}
 use lib.Dec.{eqb}
-use Rattle.cuts.specs.Network.{Tree, Network, linkAt, linkCount}
+use Rattle.cuts.specs.Network.{Tree, Network}
 use Rattle.cuts.specs.Tree.{Spanning}
 use Rattle.cuts.specs.Candidate.{Handle, one, two, Candidate, candidate, memberLinks, weightOf}
 use Rattle.trees.specs.Order.{entry, Ordered}
-use Rattle.trees.specs.Growing.{Held}
 use Rattle.trees.specs.Marks.{marks}
 use Rattle.search.specs.declared.Found.{Found}
 
@@ -32,11 +30,6 @@ pub record Says (found : Found) (part : List ℕ) (c : Candidate) : Type 0 where
 
 abbrev pub unfound : Candidate
 unfound = record { tree = 0; handle = one 0; weight = 18_446_744_073_709_551_615; side = [] }
-
-pub record Laid (net : Network) (fs ss ws : List ℕ) (nodes links : ℕ) : Type 0 where
-  pub held : Held net fs ss nodes
-  pub counted : linkCount net ≡ links
-  pub weights : (k : ℕ) → k < linkCount net → linkAt net k .weight ≡ entry ws k
 
 pub record Ready (net : Network) (t : Tree) (members order parents uplinks : List ℕ) : Type 0 where
   pub spanning : Spanning net t

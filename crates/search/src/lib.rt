@@ -1,7 +1,6 @@
 // Searches the candidates of one tree for the lightest: every member alone, then with every later one.
 // The work array has three parts of 256 marks: the nodes below the first link, the side of the candidate that is tried, and the side of
 // the lightest found so far.
-pub mod sides; // sides as marks, and their weight
 pub mod rows; // the candidates of a tree by their first link
 
 use crate::rows::search_row;
@@ -12,7 +11,8 @@ ghost use lib.ListN.{length, drop};
 ghost use Rattle.cuts.specs.First.{firstFrom};
 ghost use Rattle.cuts.specs.Network.{Network, Tree};
 ghost use Rattle.cuts.specs.Candidate.{Candidate, lighter, handles, memberLinks};
-ghost use Rattle.search.specs.Found.{Says, Laid, Ready, candidatesOf};
+ghost use Rattle.sides.specs.Laid.{Laid};
+ghost use Rattle.search.specs.Found.{Says, Ready, candidatesOf};
 
 // A candidate: the tree, its one or two links, which are equal where there is one, and the weight.
 pub struct Found {

@@ -1,8 +1,8 @@
 // The candidates of a tree by their first link: a row is a member alone, then with each later one.
 use crate::Found;
-use crate::sides::differ;
-use crate::sides::keep;
-use crate::sides::weigh;
+use sides::differ;
+use sides::keep;
+use sides::weigh;
 use trees::below::mark_below;
 ghost use mathlib.Core.Path.{_≡_};
 ghost use mathlib.Core.Bool.{cond};
@@ -15,7 +15,8 @@ ghost use Rattle.cuts.specs.Tree.{below};
 ghost use Rattle.cuts.specs.Candidate.{Candidate, one, two, lighter, pairsWith, memberLinks};
 ghost use Rattle.trees.specs.Order.{entry};
 ghost use Rattle.trees.specs.Marks.{marks};
-ghost use Rattle.search.specs.Found.{Says, Laid, Ready, Weighed, candidatesOf};
+ghost use Rattle.sides.specs.Laid.{Laid};
+ghost use Rattle.search.specs.Found.{Says, Ready, Weighed, candidatesOf};
 
 // The single weight of each member, in the members' order. `part` is work space.
 pub fn weigh_singles(

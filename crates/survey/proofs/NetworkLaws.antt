@@ -13,10 +13,10 @@ use Rattle.cuts.proofs.SumLaws.{table-length, table-at}
 use Rattle.sheet.specs.Bytes.{Bytes, mapBit}
 use Rattle.sheet.specs.Sheet.{Counts, base, treeLength, treeIn, network, Accepted}
 use Rattle.sheet.proofs.Acceptance.{members-counted}
-use Rattle.records.specs.Answers.{linksOf}
-use Rattle.records.proofs.LinksLaws.{linksOf-length, linksOf-at}
+use Rattle.links.specs.Answers.{linksOf}
+use Rattle.links.proofs.LinksLaws.{linksOf-length, linksOf-at}
 use Rattle.reader.specs.Answers.{treesFrom, networkAt}
-use Rattle.search.specs.Found.{Laid}
+use Rattle.sides.specs.Laid.{Laid}
 
 -- which trees are listed does not matter to what a record says
 treeIn-any : (nodes : ℕ) (links : List Link) (ts us : List Tree) (bs : Bytes) → treeIn (network nodes links ts) bs ≡ treeIn (network nodes links us) bs

@@ -17,7 +17,8 @@ ghost use Rattle.sheet.specs.Bytes.{mapBit};
 ghost use Rattle.sheet.specs.Sheet.{base, treeLength, treeIn, Accepted};
 ghost use Rattle.records.specs.Answers.{countsOf};
 ghost use Rattle.reader.specs.Answers.{TreeArrays, networkAt};
-ghost use Rattle.search.specs.Found.{Says, Laid, candidatesOf};
+ghost use Rattle.sides.specs.Laid.{Laid};
+ghost use Rattle.search.specs.Found.{Says, candidatesOf};
 
 // A weight above that of every cut.
 const UNFOUND: u64 = 18446744073709551615;

@@ -8,10 +8,11 @@ use lib.ListN.{length, drop}
 use Rattle.cuts.specs.Network.{Link, Network}
 use Rattle.sheet.specs.Reading.{records}
 use Rattle.sheet.specs.Sheet.{base, nextLink, treeLength, treeRecord, network}
-use Rattle.records.specs.Answers.{stepSays, Inside, EndsAt, countsOf, linksOf}
+use Rattle.records.specs.Answers.{stepSays, Inside, EndsAt, countsOf}
+use Rattle.links.specs.Answers.{linksOf}
 use Rattle.reader.specs.Answers.{treesFrom}
 use Rattle.records.specs.declared.Step.{Step}
-use Rattle.records.proofs.LinksLaws.{linksOf-length}
+use Rattle.links.proofs.LinksLaws.{linksOf-length}
 use Rattle.reader.proofs.SheetLaws.{held-links, refused-by-links, refused-by-trees, bytes-left, sheet-read}
 use Rattle.reader.proofs.read_body.Statement.{statement}
 use Rattle.reader.proofs.read_body.Tie as tie

@@ -8,7 +8,8 @@ use lib.ListN.{length, drop}
 use Rattle.cuts.specs.First.{firstFrom}
 use Rattle.cuts.specs.Network.{Network, Tree}
 use Rattle.cuts.specs.Candidate.{Candidate, lighter, handles, memberLinks}
-use Rattle.search.specs.Found.{Says, Laid, Ready, Weighed, candidatesOf}
+use Rattle.sides.specs.Laid.{Laid}
+use Rattle.search.specs.Found.{Says, Ready, Weighed, candidatesOf}
 use Rattle.search.proofs.PartLaws.{three-parts, third-is, first-back}
 use Rattle.search.proofs.SearchLaws.{says-in, Toward, toward-start, toward-row, toward-done, ranks-end}
 use Rattle.search.proofs.search_tree.Statement.{statement}

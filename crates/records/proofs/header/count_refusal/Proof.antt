@@ -5,7 +5,7 @@ use mathlib.Core.Logic.{inl, inr, ⊎-elim}
 use native.Mathlib.Omega.{arith}
 use borrow.Author.Needs.{needs}
 use borrow.Author.Tests.{ltb-true, ltb-false}
-use Rattle.records.proofs.RecordLaws.{nodes-refused, links-refused, trees-refused, counts-pass}
+use Rattle.records.proofs.HeaderLaws.{nodes-refused, links-refused, trees-refused, counts-pass}
 use Rattle.records.proofs.header.count_refusal.Statement.{statement}
 use Rattle.records.proofs.header.count_refusal.Tie as tie
 

@@ -7,7 +7,7 @@ use borrow.Author.Needs.{needs}
 use Rattle.sheet.specs.Reading.{accepted, unless}
 use Rattle.sheet.specs.Sheet.{headerRecord}
 use Rattle.sheet.proofs.ReadingLaws.{unless-passed, unless-refused}
-use Rattle.records.proofs.RecordLaws.{header-short, header-long, counts-at}
+use Rattle.records.proofs.HeaderLaws.{header-short, header-long, counts-at}
 use Rattle.records.proofs.header.read_header.Statement.{statement}
 use Rattle.records.proofs.header.read_header.Tie as tie
 

@@ -14,7 +14,8 @@ use Rattle.cuts.specs.Candidate.{Candidate, one, two, candidate, lighter, pairs
 use Rattle.trees.specs.Order.{entry}
 use Rattle.trees.specs.Marks.{marks}
 use Rattle.trees.proofs.MarkLaws.{marks-length}
-use Rattle.search.specs.Found.{Says, Laid, Ready, Weighed, candidatesOf}
+use Rattle.sides.specs.Laid.{Laid}
+use Rattle.search.specs.Found.{Says, Ready, Weighed, candidatesOf}
 use Rattle.search.proofs.PartLaws.{three-parts, first-is, third-is, back-first, back-second, first-back, second-back, back-back}
 use Rattle.search.proofs.SearchLaws.{says-in, Toward, toward-start, toward-run, toward-done, entry-member, ranks-next, ranks-end, single-says}
 use Rattle.search.proofs.rows.search_row.Statement.{statement}

@@ -13,7 +13,8 @@ use Rattle.cuts.specs.Network.{Network, Tree}
 use Rattle.cuts.specs.Tree.{below}
 use Rattle.cuts.specs.Candidate.{one, weightOf}
 use Rattle.trees.specs.Order.{entry}
-use Rattle.search.specs.Found.{Laid, Ready}
+use Rattle.sides.specs.Laid.{Laid}
+use Rattle.search.specs.Found.{Ready}
 use Rattle.search.proofs.SearchLaws.{entry-member}
 use Rattle.search.proofs.rows.weigh_singles.Statement.{statement}
 use Rattle.search.proofs.rows.weigh_singles.Tie as tie
