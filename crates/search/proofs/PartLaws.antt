@@ -42,6 +42,9 @@ module _ {xs a b c : List ℕ} (p : Parts xs a b c) where
   pub front-is : take 512 xs ≡ a ++ b
   front-is = rw (p .is, ← append-assoc a b c) (take-at (a ++ b) c 512 (simp length-append (omega arith)))
 
+  pub front-first : take 256 (take 512 xs) ≡ a
+  front-first = rw front-is (take-at a b 256 (p .first))
+
   back-is : take 512 (drop 256 xs) ≡ b ++ c
   back-is = rw behind-first (take-all 512 (b ++ c) (simp length-append (omega arith)))
 

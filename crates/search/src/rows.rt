@@ -1,7 +1,7 @@
 // The candidates of a tree by their first link: a row is a member alone, then with each later one.
 use crate::Found;
 use sides::differ;
-use sides::keep;
+use sides::repeat;
 use sides::weigh;
 use trees::below::mark_below;
 ghost use mathlib.Core.Path.{_≡_};
@@ -55,7 +55,7 @@ fn lighter_one(sides: &mut [u8], tried: Found, before: Found) -> Found
         → Says r (drop 256 (now (sides .exit))) (cond (lighter d c) d c)) ⌝ }
 {
     if tried.weight < before.weight {
-        keep(sides);
+        repeat(sides);
         tried
     } else {
         before
@@ -121,7 +121,7 @@ fn search_pair(
 }
 
 // The lightest of what was found before and the member of rank `i` alone and with each later one; of equal ones the first. The nodes
-// below that member are marked in two parts: they stay in the first, and are the side of the member alone in the second.
+// below that member are marked in the first part, where they stay, and repeated in the second, as the side of the member alone.
 pub fn search_row(
     work: &mut [u8],
     singles: &[u64],
@@ -149,7 +149,7 @@ pub fn search_row(
 {
     let link = members[i];
     mark_below(&mut work[0..256], order, parents, uplinks, nodes, link);
-    mark_below(&mut work[256..512], order, parents, uplinks, nodes, link);
+    repeat(&mut work[0..512]);
     let single = Found {
         tree: tree,
         first: link,

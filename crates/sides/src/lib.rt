@@ -21,7 +21,7 @@ pub fn differ(pair: &mut [u8])
 }
 
 // The second half of the marks becomes the first.
-pub fn keep(pair: &mut [u8])
+pub fn repeat(pair: &mut [u8])
     requires { ⌜ length (now pair) ≡ 512 ⌝ }
     ensures { λ _. ⌜ now (pair .exit) ≡ take 256 (now (pair .entry)) ++ take 256 (now (pair .entry)) ⌝ }
 {

@@ -2,8 +2,8 @@
 -- work array, and what is found so far, with the pairs of rank `j` and more, leads to the lightest of the pairs. Each turn tries one pair.
 -- Assumes nothing.
 use Prim.Native.Nat.{ℕ, _+_, _-_, _≤_, _<_}
-use mathlib.Core.Path.{_≡_, _∙_}
-use mathlib.Core.List.{List, [], _∷_}
+use mathlib.Core.Path.{_≡_, ap₂, _∙_}
+use mathlib.Core.List.{List, [], _∷_, _++_}
 use native.Mathlib.Omega.{arith}
 use lib.ListN.{length, take, drop}
 use Rattle.cuts.specs.First.{firstFrom}
@@ -16,7 +16,7 @@ use Rattle.trees.specs.Marks.{marks}
 use Rattle.trees.proofs.MarkLaws.{marks-length}
 use Rattle.sides.specs.Laid.{Laid}
 use Rattle.search.specs.Found.{Says, Ready, Weighed, candidatesOf}
-use Rattle.search.proofs.PartLaws.{three-parts, first-is, third-is, back-first, back-second, first-back, second-back, back-back}
+use Rattle.search.proofs.PartLaws.{three-parts, first-is, third-is, front-first, back-first, back-second, first-back, front-back, back-back}
 use Rattle.search.proofs.SearchLaws.{says-in, Toward, toward-start, toward-run, toward-done, entry-member, ranks-next, ranks-end, single-says}
 use Rattle.search.proofs.rows.search_row.Statement.{statement}
 use Rattle.search.proofs.rows.search_row.Tie as tie
@@ -33,15 +33,15 @@ Inv-loop work₀ singles firsts seconds weights members order parents uplinks no
 abbrev μ-loop : tie.MeasureT-loop
 μ-loop work₀ singles firsts seconds weights members order parents uplinks nodes links tree i link best₀ j₀ work best j = nodes - j
 
--- the places on the way, each from a later one: the entry, where the nodes below the member were marked, first and second, and where
--- the member alone was tried
+-- the places on the way, each from a later one: the entry, where the nodes below the member were marked and repeated, and where the
+-- member alone was tried
 abbrev start : tie.After-mark-below Inv-loop μ-loop → tie.Start Inv-loop μ-loop
 start c = c .before .before .before .before .before .before .before .before .before .before .before .before
 
-abbrev first : tie.After-mark-below2 Inv-loop μ-loop → tie.After-mark-below Inv-loop μ-loop
+abbrev first : tie.After-repeat Inv-loop μ-loop → tie.After-mark-below Inv-loop μ-loop
 first c = c .before .before .before .before
 
-abbrev second : tie.After-lighter-one Inv-loop μ-loop → tie.After-mark-below2 Inv-loop μ-loop
+abbrev second : tie.After-lighter-one Inv-loop μ-loop → tie.After-repeat Inv-loop μ-loop
 second c = c .before .before .before .before .before
 
 abbrev single : tie.At-loop Inv-loop μ-loop → tie.After-lighter-one Inv-loop μ-loop
@@ -67,19 +67,17 @@ mark-below-requires c κs =
     let q = c .before .before .before .before .before .before .before .before .before .before .before .pre in
     ((c .mark-below-arg .given .2, q .1 .1 .1, q .1 .1 .2, q .1 .1 .3), q .0 .2)
 
-sub-mark-below-2 : tie.Need-sub-mark-below-2 Inv-loop μ-loop
-sub-mark-below-2 c = omega arith
+sub-repeat : tie.Need-sub-repeat Inv-loop μ-loop
+sub-repeat c = omega arith
 
-part-mark-below-start-2 : tie.Need-part-mark-below-start-2 Inv-loop μ-loop
-part-mark-below-start-2 c = omega arith
+part-repeat-start : tie.Need-part-repeat-start Inv-loop μ-loop
+part-repeat-start c = omega arith
 
-part-mark-below-end-2 : tie.Need-part-mark-below-end-2 Inv-loop μ-loop
-part-mark-below-end-2 c = omega (arith, c .before .work .given .1, start (c .before .before) .pre .0 .0)
+part-repeat-end : tie.Need-part-repeat-end Inv-loop μ-loop
+part-repeat-end c = omega (arith, c .before .work .given .1, start (c .before .before) .pre .0 .0)
 
-mark-below-requires-2 : tie.Need-mark-below-requires-2 Inv-loop μ-loop
-mark-below-requires-2 c κs =
-    let q = start (c .before .before .before) .pre in
-    ((c .mark-below-arg2 .given .2, q .1 .1 .1, q .1 .1 .2, q .1 .1 .3), q .0 .2)
+repeat-requires : tie.Need-repeat-requires Inv-loop μ-loop
+repeat-requires c κs = c .repeat-arg .given .2
 
 mul-t19 : tie.Need-mul-t19 Inv-loop μ-loop
 mul-t19 c = let q = start (first (c .before .before)) .pre in omega arith
@@ -168,7 +166,7 @@ returns c =
     let b1 = first b2 in
     let s = start b1 in
     let m = b1 .mark-below in
-    let m2 = b2 .mark-below2 in
+    let r = b2 .repeat in
     let o = b3 .lighter-one in
     let q = s .pre in
     let n : net .nodes ≡ s .args .nodes = laid .held .sized in
@@ -178,13 +176,13 @@ returns c =
     let member = entry-member ready long (s .args .i) under in
     let a : Side = below net t (entry ms (s .args .i)) in
     let marked : m .last .0 ≡ marks a = m .ensures net t (ready .spanning) (ready .ordered) n member in
-    let marked2 : m2 .last .0 ≡ marks a = m2 .ensures net t (ready .spanning) (ready .ordered) n member in
     let first = first-back (three-parts (s .args .work .now) (q .0 .0)) {y = m .last .0} (rw marked (marks-length a)) in
-    let both = second-back first {y = m2 .last .0} (rw marked2 (marks-length a)) in
+    let front = front-first first ∙ marked in
+    let both = front-back first (r .ensures ∙ ap₂ _++_ front front) (marks-length a) (marks-length a) in
     let lightest = back-back both (o .last .0) (c .before .before .before .work3 .given .0 ∙ b3 .before .lighter-one-arg .given .2) in
-    let tried = single-says ready long (s .args .singles .now) weighed (s .args .i) under (s .args .tree) (back-first both ∙ marked2) in
+    let tried = single-says ready long (s .args .singles .now) weighed (s .args .i) under (s .args .tree) (back-first both) in
     let kept = o .ensures x (candidate net (s .args .tree) t (one (entry ms (s .args .i)))) tried (says-in (back-second both) says) in
-    let h = l .inv .3 net t _ laid ready weighed (first-is lightest ∙ marked) (says-in (third-is lightest) kept) in
+    let h = l .inv .3 net t _ laid ready weighed (first-is lightest) (says-in (third-is lightest) kept) in
     let e = ranks-end ready long (l .j) (omega (arith, c .loop-test .left)) in
     toward-done (rw e at (h .1))
 
@@ -200,10 +198,10 @@ search-row-spec =
     part-mark-below-start
     part-mark-below-end
     mark-below-requires
-    sub-mark-below-2
-    part-mark-below-start-2
-    part-mark-below-end-2
-    mark-below-requires-2
+    sub-repeat
+    part-repeat-start
+    part-repeat-end
+    repeat-requires
     mul-t19
     shared-slice-read-t30
     sub-lighter-one

@@ -1,4 +1,4 @@
--- `sides::keep` meets its contract. The loop's invariant: the first x places of the second half are those of the first, and the
+-- `sides::repeat` meets its contract. The loop's invariant: the first x places of the second half are those of the first, and the
 -- rest is as it was, which each turn carries one place further.
 -- Assumes nothing.
 use Prim.Native.Nat.{_-_, _≤_}
@@ -8,8 +8,8 @@ use native.Mathlib.Omega.{arith}
 use lib.ListN.{length, length-set}
 use lib.Seq.{paste, paste-zero, paste-suc}
 use Rattle.sides.proofs.SideLaws.{paste-before, paste-end}
-use Rattle.sides.proofs.keep.Statement.{statement}
-use Rattle.sides.proofs.keep.Tie as tie
+use Rattle.sides.proofs.repeat.Statement.{statement}
+use Rattle.sides.proofs.repeat.Tie as tie
 
 abbrev Inv-loop : tie.InvT-loop
 Inv-loop pair₀ x₀ pair x = (pair ≡ paste pair₀ 256 pair₀ x) × (length pair ≡ 512) × (x ≤ 256)
@@ -55,8 +55,8 @@ returns c =
     let e : l .x ≡ 256 = omega arith in
     rw (e, paste-end p 256 p 256 (omega arith)) at (l .inv .0)
 
-pub keep-spec : {M : Type 1} → statement M
-keep-spec =
+pub repeat-spec : {M : Type 1} → statement M
+repeat-spec =
     tie.close
     (tie.spec
     Inv-loop
