@@ -3,3 +3,4 @@ pub mod ByteLaws
 pub mod Acceptance
 pub mod AreaLaws
 pub mod Cases
+pub mod Longest
