@@ -1,28 +1,20 @@
 -- What the report has of a cut that was found: its fields are those of the answer that the cut is the candidate of. Assumes nothing.
 use Prim.Native.Nat.{ℕ}
-use mathlib.Core.Path.{_≡_, refl, ap, _∙_}
-use mathlib.Core.Bool.{Bool, true, false, cond}
+use mathlib.Core.Path.{_≡_, sym, ap, _∙_}
 use mathlib.Core.List.{List, [], _∷_}
 use lib.Dec.{eqb}
-use Rattle.cuts.specs.Candidate.{one, two}
 use Rattle.cuts.specs.Answer.{Answer}
 use Rattle.sheet.specs.Bytes.{fieldBytes}
 use Rattle.sheet.specs.Areas.{reportWidths, firstLink, secondLink, reportBytes}
+use Rattle.sheet.proofs.AreaLaws.{firstLink-cond}
 use Rattle.search.specs.Found.{Says, chosen}
 use Rattle.search.specs.declared.Found.{Found}
-
-pub chosen-first : (e f : ℕ) → e ≡ firstLink (chosen e f)
-chosen-first e f = step (eqb e f)
-  where
-    step : (b : Bool) → e ≡ firstLink (cond b (one e) (two e f))
-    step true = refl
-    step false = refl
 
 module _ (found : Found) (part : List ℕ) (a : Answer) (says : Says found part (a .best)) where
   pub report-fields : (v n s f : ℕ) → a .verdict ≡ v → a .count ≡ n → s ≡ secondLink (chosen (found .first) (found .second)) → a .floor ≡ f
       → fieldBytes reportWidths (v ∷ found .tree ∷ n ∷ found .first ∷ s ∷ found .weight ∷ f ∷ []) ≡ reportBytes a
   unfolding reportBytes
   report-fields v n s f verdict count second floor =
-      let first : found .first ≡ firstLink (a .best .handle) = chosen-first (found .first) (found .second) ∙ ap firstLink (says .handle) in
+      let first : found .first ≡ firstLink (a .best .handle) = sym (firstLink-cond (eqb (found .first) (found .second)) (found .first) (found .second)) ∙ ap firstLink (says .handle) in
       let other : s ≡ secondLink (a .best .handle) = second ∙ ap secondLink (says .handle) in
       rw (← verdict, ← count, ← floor, says .tree, first, other, says .weight)

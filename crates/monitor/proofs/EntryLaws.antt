@@ -28,7 +28,7 @@ module _ (sheet side report : Bytes) where
     report-refused l = refused-reported 2 (omega arith) (rw (le-ltb (length side) 32 enough, lt-ltb (length report) 16 l))
 
     module _ (room : 16 ≤ length report) where
-      reading-is : reading sheet side report ≡ decode base sheet
+      pub reading-is : reading sheet side report ≡ decode base sheet
       unfolding reading areaChecks firstFailing
       reading-is = rw (le-ltb (length side) 32 enough, le-ltb (length report) 16 room)
 

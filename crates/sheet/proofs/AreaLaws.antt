@@ -2,11 +2,12 @@
 -- that what stands in the areas afterwards is that answer, and all that is owed of the answer is owed of those bytes.
 -- Assumes nothing.
 use Prim.Native.Nat.{ℕ, _≤_, _<_}
+use mathlib.Core.List.{[], _∷_}
 use mathlib.Core.Path.{_≡_, refl, sym, ap, ap₂, _∙_}
 use mathlib.Core.Bool.{Bool, true, false, cond}
 use native.Mathlib.Omega.{arith}
-use lib.ListN.{length, drop}
-use lib.Seq.{ext-getD}
+use lib.ListN.{length, getD, drop}
+use lib.Seq.{ext-getD, drop-drop}
 use lib.Dec.{eqb}
 use borrow.Author.Tests.{ne-eqb}
 use Rattle.cuts.specs.Sums.{table}
@@ -18,12 +19,12 @@ use Rattle.cuts.specs.Demands.{Owed}
 use Rattle.cuts.proofs.SumLaws.{table-length, table-at}
 use Rattle.cuts.proofs.CutLaws.{cutWeight-most}
 use Rattle.cuts.proofs.Demands.{answer-demand2, answer-demand3, answer-owed}
-use Rattle.sheet.specs.Bytes.{Bytes, mapBit}
+use Rattle.sheet.specs.Bytes.{Bytes, number, fields, mapBit}
 use Rattle.sheet.specs.Reading.{accepted}
 use Rattle.sheet.specs.Sheet.{Accepted, base, decode}
 use Rattle.sheet.specs.Areas.{sideBytes, reportWidths, reportFields, reportBytes, noSecond, firstLink, secondLink, written, sideAfter, reportAfter, sideRead, handleOf, answerOf, answerRead}
 use Rattle.sheet.proofs.Acceptance.{decode-accepted}
-use Rattle.sheet.proofs.ByteLaws.{Fitting, fields-fieldBytes, mapBit-table}
+use Rattle.sheet.proofs.ByteLaws.{number-one, Fitting, fields-fieldBytes, mapBit-table}
 
 pub sideBytes-length : (s : Side) → length (sideBytes s) ≡ 32
 unfolding sideBytes
@@ -49,6 +50,11 @@ abbrev LinksBelow : ℕ → Handle → Type 0
 LinksBelow m (one e) = e < m
 LinksBelow m (two e f) = (e < m) × (f < m)
 
+-- a handle made of two numbers, by whether the second stands for a link
+pub firstLink-cond : (b : Bool) (e f : ℕ) → firstLink (cond b (one e) (two e f)) ≡ e
+firstLink-cond true e f = refl
+firstLink-cond false e f = refl
+
 handleOf-links : (h : Handle) → LinksBelow noSecond h → handleOf (firstLink h) (secondLink h) ≡ h
 handleOf-links (one e) b = refl
 handleOf-links (two e f) b = rw (ne-eqb f noSecond (λ q. let l = b .1 in omega arith))
@@ -67,6 +73,12 @@ answerRead-written nodes a side report e m l f =
       floor = a .floor;
       verdict = a .verdict;
     }
+
+pub fields-reportWidths : (bs : Bytes) → fields reportWidths bs
+    ≡ getD bs 0 0 ∷ getD bs 1 0 ∷ number 2 (drop 2 bs) ∷ number 2 (drop 4 bs) ∷ number 2 (drop 6 bs) ∷ number 4 (drop 8 bs) ∷ number 4 (drop 12 bs) ∷ []
+unfolding fields
+fields-reportWidths bs =
+    rw (drop-drop 1 1 bs, drop-drop 2 2 bs, drop-drop 2 4 bs, drop-drop 2 6 bs, drop-drop 4 8 bs, number-one 0 bs, number-one 1 bs)
 
 -- ---- the answer of an accepted sheet
 

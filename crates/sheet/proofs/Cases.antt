@@ -63,15 +63,15 @@ split trees = header 4 4 trees ++ link 0 1 1 ++ link 0 1 1 ++ link 1 2 1 ++ link
 
 -- ---- accepted
 
-record Case : Type 0 where
-  sheet : Bytes
+pub record Case : Type 0 where
+  pub sheet : Bytes
   line : List ℕ
   nodes : List ℕ
 
 abbrev gives : Bytes → List ℕ → List ℕ → Case
 gives bs line nodes = record { sheet = bs; line = line; nodes = nodes }
 
-starred : List Case
+unfoldable pub starred : List Case
 starred =
     -- A: a triangle, whole
     gives (triangle ++ tree 2 5) (2 ∷ 5 ∷ 5 ∷ 0 ∷ 0 ∷ 65535 ∷ 1 ∷ []) (1 ∷ [])

@@ -1,0 +1,39 @@
+-- What is printed for document 01's starred networks and for refused sheets, proved of the definitions from the sheet's bytes on by
+-- computing a table. Assumes nothing.
+use mathlib.Core.Path.{_≡_, refl}
+use mathlib.Core.List.{List, [], _∷_, map}
+use Rattle.cuts.specs.Answer.{answer}
+use Rattle.sheet.specs.Sheet.{base, decode}
+use Rattle.sheet.proofs.Cases.{starred}
+use Rattle.text.specs.Decimal.{Text, decimal}
+use Rattle.text.specs.Line.{ascii}
+use Rattle.lines.specs.Output.{answerLines, refusedLine, output}
+
+-- A to H, H with each of its shares
+starredLines : List Text
+starredLines =
+    ascii "answer 2 5 5 0 0 - 1\nside 1\n"
+    ∷ ascii "answer 1 5 3 0 0 - 1\nside 1\n"
+    ∷ ascii "answer 2 2 2 0 0 - 3\nside 1 2 3\n"
+    ∷ ascii "answer 1 2 0 0 0 - 3\nside 1 2 3\n"
+    ∷ ascii "answer 2 2 2 0 0 1 1\nside 1\n"
+    ∷ ascii "answer 1 11 3 0 0 - 3\nside 1 2 3\n"
+    ∷ ascii "answer 2 0 0 0 0 - 1\nside 1\n"
+    ∷ ascii "answer 1 4 3 0 0 - 1\nside 1\n"
+    ∷ ascii "answer 2 4 4 0 0 - 1\nside 1\n"
+    ∷ ascii "answer 2 4 4 0 0 - 1\nside 1\n"
+    ∷ ascii "answer 1 4 0 0 0 - 1\nside 1\n"
+    ∷ []
+
+starred-printed : map (λ c. output (decode base (c .sheet))) starred ≡ starredLines
+unfolding starred starredLines decode answer decimal answerLines
+starred-printed = refl
+
+-- no byte at all, and network H with a byte behind its tree
+refused-printed : output (decode base []) ≡ ascii "refused 3\n"
+unfolding decode decimal refusedLine
+refused-printed = refl
+
+longer-printed : output (decode base (2 ∷ 0 ∷ 1 ∷ 0 ∷ 1 ∷ 7 ∷ 0 ∷ 0 ∷ 1 ∷ 0 ∷ 4 ∷ 0 ∷ 0 ∷ 0 ∷ 1 ∷ 0 ∷ 0 ∷ 0 ∷ 1 ∷ 0 ∷ [])) ≡ ascii "refused 16\n"
+unfolding decode decimal refusedLine
+longer-printed = refl

@@ -1,0 +1,3 @@
+pub mod NodeLaws
+pub mod OutputLaws
+pub mod Cases

@@ -1,0 +1,88 @@
+-- What is printed is what the two areas and the returned number say: an answer read back from the areas prints as the answer itself,
+-- since both sides have the same first 256 flags, and a refusal prints its number. Assumes nothing.
+use Prim.Native.Nat.{ℕ, _+_, _≤_, _<_}
+use mathlib.Core.Path.{_≡_, sym, ap, ap₂, _∙_, subst}
+use mathlib.Core.Bool.{Bool, false}
+use mathlib.Core.List.{List, [], _++_, map}
+use native.Mathlib.Nat.{zero-add}
+use native.Mathlib.Omega.{arith}
+use lib.ListN.{length, take, drop}
+use lib.Seq.{length-take-le, sets, sets-eq}
+use Rattle.cuts.specs.Sums.{select}
+use Rattle.cuts.specs.Network.{Network, flag}
+use Rattle.cuts.specs.Cut.{Side}
+use Rattle.cuts.specs.Answer.{Answer, answer}
+use Rattle.cuts.proofs.SumLaws.{table-at}
+use Rattle.cuts.proofs.Handles.{select-congr}
+use Rattle.sheet.specs.Bytes.{Bytes, number, fields, mapBit}
+use Rattle.sheet.specs.Reading.{Reading, accepted, refused, numberOf}
+use Rattle.sheet.specs.Sheet.{Accepted, base, decode}
+use Rattle.sheet.specs.Areas.{sideBytes, reportWidths, written, sideAfter, reportAfter, sideRead, answerOf, answerRead}
+use Rattle.sheet.proofs.ByteLaws.{mapBit-table}
+use Rattle.sheet.proofs.Acceptance.{decode-accepted, decode-zero}
+use Rattle.sheet.proofs.AreaLaws.{answer-back}
+use Rattle.monitor.specs.Entry.{reading, sideLeft, reportLeft, Reported}
+use Rattle.monitor.proofs.EntryLaws.{reading-is}
+use Rattle.text.specs.Decimal.{Text, decimal}
+use Rattle.text.specs.Line.{line, Put}
+use Rattle.text.proofs.LineLaws.{put-put, put-length}
+use Rattle.lines.specs.Output.{answerWord, sideWord, answerFields, sideFields, answerLines, refusedLine, output}
+
+-- ---- the two lines
+
+-- a side prints the nodes that pass a test which agrees with its flags
+sideFields-select : (s : Side) (f : ℕ → Bool) → ((k : ℕ) → k < 256 → flag s k ≡ f k) → sideFields s ≡ map decimal (select 256 f)
+unfolding sideFields
+sideFields-select s f h = ap (map decimal) (select-congr 256 (flag s) f h)
+
+pub answerLines-put : {old mid new : Text} {p q : ℕ} (fs : List ℕ) (side report : Bytes) → fs ≡ fields reportWidths report
+    → Put old 0 (line answerWord (answerFields (answerOf fs (sideRead 256 side)))) mid p
+    → Put mid p (line sideWord (map decimal (select 256 (mapBit side)))) new q
+    → Put old 0 (answerLines (answerRead 256 side report)) new q
+unfolding answerLines answerRead sideRead
+answerLines-put {old} {mid} {new} {p} {q} fs side report e h k =
+    subst (λ (t : Text). Put old 0 t new q)
+    (ap₂ (λ (gs : List ℕ) (ns : List Text). line answerWord (answerFields (answerOf gs (sideRead 256 side))) ++ line sideWord ns) e
+    (sym (sideFields-select (sideRead 256 side) (mapBit side) (table-at false 256 (mapBit side)))))
+    (put-put h k)
+
+-- read from the areas with a flag for each of the 256 bits, an answer prints as it does with a flag for each node
+answerLines-back : (net : Network) → Accepted base net → (side report : Bytes) → answerLines (answerRead 256 (sideAfter net side) (reportAfter net report)) ≡ answerLines (answer net)
+unfolding answerLines answerRead sideRead sideBytes
+answerLines-back net v side report =
+    let f : ℕ → Bool = flag (answer net .best .side) in
+    let area : Bytes = sideAfter net side in
+    ap₂ (λ (a : Answer) (ns : List Text). line answerWord (answerFields a) ++ line sideWord ns) (answer-back net v side report)
+    (sideFields-select (sideRead 256 area) f (λ k b. table-at false 256 (mapBit area) k b ∙ mapBit-table 32 f (drop 32 side) k (omega arith)))
+
+-- ---- the output
+
+-- areas of 32 and 16 bytes are long enough: the sheet decides
+module _ {sheet side report side′ report′ : Bytes} {n : ℕ} (said : Reported sheet side report side′ report′ n) (s : length side ≡ 32) (r : length report ≡ 16) where
+  decides : reading sheet side report ≡ decode base sheet
+  decides = reading-is sheet side report (omega arith) (omega arith)
+
+  pub answer-output : n ≡ 0 → answerLines (answerRead 256 side′ report′) ≡ output (decode base sheet)
+  answer-output z =
+      let read = decode-zero base sheet (sym (said .number ∙ ap numberOf decides) ∙ z) in
+      let net : Network = read .0 in
+      let e : reading sheet side report ≡ accepted net [] = decides ∙ read .1 in
+      ap₂ (λ (a b : Bytes). answerLines (answerRead 256 a b)) (said .side-is ∙ ap (sideLeft side) e) (said .report-is ∙ ap (reportLeft report) e)
+      ∙ answerLines-back net (decode-accepted base sheet net [] (read .1)) side report
+      ∙ sym (ap output (read .1))
+
+  pub refused-output : (n ≡ 0 → ⊥) → refusedLine n ≡ output (decode base sheet)
+  refused-output z = step (decode base sheet) (said .number ∙ ap numberOf decides)
+    where
+      step : (d : Reading Network) → n ≡ numberOf d → refusedLine n ≡ output d
+      step (accepted net rest) e = absurd (z e)
+      step (refused m) e = ap refusedLine e
+
+-- text put to the front of a buffer that has room for it
+pub put-written : {old new text : Text} {end : ℕ} (most : ℕ) (out : Text) → Put old 0 text new end → text ≡ out → end ≤ most → most ≤ length old
+    → ((end ≡ length out) × (end ≤ most) × (new ≡ written out old)) × ((end ≤ length new) × (end ≡ length (take end new)))
+put-written {old} {new} {text} {end} most out h e b m =
+    let l : end ≡ length out = h .end-is ∙ ap (λ (t : Text). 0 + length t) e ∙ zero-add (length out) in
+    let w : new ≡ written out old = h .new-is ∙ ap (λ (t : Text). sets old 0 t) e ∙ sets-eq out old 0 (omega arith) ∙ ap (λ (k : ℕ). out ++ drop k old) (zero-add (length out)) in
+    let f : end ≤ length new = omega (arith, put-length h) in
+    ((l, b, w), (f, sym (length-take-le end new f)))
