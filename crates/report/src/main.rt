@@ -1,0 +1,21 @@
+// The report program: reads a sheet from standard input and prints its answer or its refusal.
+use libc::STDIN_FILENO;
+use libc::STDOUT_FILENO;
+use lines::MOST_OUTPUT;
+use lines::report_lines;
+
+// Bytes of the input behind these are not read.
+const MOST_INPUT: usize = 32768;
+
+// Reads until the buffer is full or the input ends, and prints what the bytes read give.
+fn report(input: &mut [u8]) {
+    let read = io::read_full(STDIN_FILENO, input);
+    let mut out = [0u8; MOST_OUTPUT];
+    let written = report_lines(&input[..read], &mut out);
+    io::write_all(STDOUT_FILENO, &out[..written]);
+}
+
+fn main() {
+    let mut input = [0u8; MOST_INPUT];
+    report(&mut input);
+}
