@@ -1,13 +1,19 @@
-# make test    prove and test everything; the last line is `N passed, 0 failed`
-# make demo    the reports of document 01's starred networks
-# make bench   the entry's time against the same method in plain Rust, as ratios
-.PHONY: test demo bench
+# make demo                  the reports of document 01's starred networks
+# make test                  prove and test everything; the last line is `N passed, 0 failed`
+# make soak [N=100000]       compare so many random cases with the reference; SEED=.. repeats a run
+# make bench                 the entry's time against the same method in plain Rust, as ratios
+.PHONY: demo test soak bench
+
+N ?= 100000
+
+demo:
+	@tools/demo
 
 test:
 	@tools/test
 
-demo:
-	@tools/demo
+soak:
+	@tools/compare --soak $(N) $(if $(SEED),--seed $(SEED))
 
 bench:
 	@tools/bench

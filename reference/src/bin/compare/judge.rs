@@ -1,0 +1,245 @@
+//! Holds what the entry and the program answer against what is expected, and counts.
+
+use std::fmt;
+use std::io;
+use std::path::PathBuf;
+
+use reference::random::Random;
+use reference::report::{self, Outcome, REPORT_BYTES, SIDE_BYTES};
+
+use crate::entry::{self, Lent};
+use crate::program;
+
+const LONGEST_AREA: usize = 40;
+const LAST_REFUSAL: usize = 16;
+
+/// A sheet that has another answer than the expected one.
+pub struct Difference {
+    kind: String,
+    sheet: Vec<u8>,
+    expected: String,
+    got: String,
+}
+
+impl fmt::Display for Difference {
+    fn fmt(&self, formatter: &mut fmt::Formatter) -> fmt::Result {
+        writeln!(formatter, "differs, kind: {}", self.kind)?;
+        writeln!(formatter, "sheet: {}", entry::hexadecimal(&self.sheet))?;
+        write!(formatter, "expected:\n{}", self.expected)?;
+        write!(formatter, "got:\n{}", self.got)
+    }
+}
+
+/// Why the comparison ends early.
+pub enum Stop {
+    Differs(Difference),
+    CannotRun(io::Error),
+}
+
+pub type Judged = Result<(), Stop>;
+
+/// Which way a sheet goes: to the entry, or to the program too.
+#[derive(Clone, Copy, PartialEq, Eq)]
+pub enum Through {
+    Entry,
+    Both,
+}
+
+#[derive(Default)]
+pub struct Row {
+    pub kind: String,
+    pub entry: u64,
+    pub program: u64,
+    pub accepted: u64,
+    pub refused: u64,
+}
+
+/// How many of the accepted sheets have which answer.
+#[derive(Default)]
+pub struct Answers {
+    pub whole: u64,
+    pub floor_zero: u64,
+    pub pair: u64,
+    pub later_tree: u64,
+}
+
+pub struct Judge {
+    program: PathBuf,
+    /// For the lengths and patterns of areas, and for which sheets go through the program too.
+    random: Random,
+    pub rows: Vec<Row>,
+    current_row: usize,
+    pub answers: Answers,
+    /// How many sheets were refused by each number.
+    pub refusals: [u64; LAST_REFUSAL + 1],
+    /// How many networks were reckoned by every side too.
+    pub by_every_side: u64,
+    /// How many networks were written in a longer sheet than the shortest.
+    pub longer: u64,
+}
+
+impl Judge {
+    pub fn new(program: PathBuf, seed: u64) -> Judge {
+        Judge {
+            program,
+            random: Random::new(!seed),
+            rows: vec![Row::default()],
+            current_row: 0,
+            answers: Answers::default(),
+            refusals: [0; LAST_REFUSAL + 1],
+            by_every_side: 0,
+            longer: 0,
+        }
+    }
+
+    /// The sheets that follow are of this kind.
+    pub fn kind(&mut self, kind: &str) {
+        let known = self.rows.iter().position(|row| row.kind == kind);
+        self.current_row = known.unwrap_or(self.rows.len());
+        if known.is_none() {
+            self.rows.push(Row { kind: kind.to_string(), ..Row::default() });
+        }
+    }
+
+    fn row(&mut self) -> &mut Row {
+        &mut self.rows[self.current_row]
+    }
+
+    pub fn cases(&self) -> u64 {
+        self.rows.iter().map(|row| row.entry + row.program).sum()
+    }
+
+    /// Through both once in so many times, else through the entry only.
+    pub fn both_once_in(&mut self, times: usize) -> Through {
+        if self.random.once_in(times) {
+            Through::Both
+        } else {
+            Through::Entry
+        }
+    }
+
+    /// The sheet's answer is the reference's.
+    pub fn sheet(&mut self, sheet: &[u8], through: Through) -> Judged {
+        self.expect(sheet, &report::outcome(sheet), through)
+    }
+
+    /// The sheet's answer is the expected one.
+    pub fn expect(&mut self, sheet: &[u8], expected: &Outcome, through: Through) -> Judged {
+        let side_length = self.random.between(SIDE_BYTES, LONGEST_AREA);
+        let report_length = self.random.between(REPORT_BYTES, LONGEST_AREA);
+        self.through_entry(sheet, expected, side_length, report_length)?;
+        if through == Through::Both {
+            self.through_program(sheet, expected, &[])?;
+        }
+        self.count(expected);
+        Ok(())
+    }
+
+    /// The sheet is sent to the program with a pause at each of the offsets.
+    pub fn with_pauses(&mut self, sheet: &[u8], pauses: &[usize]) -> Judged {
+        let expected = report::outcome(sheet);
+        self.through_program(sheet, &expected, pauses)?;
+        self.count(&expected);
+        Ok(())
+    }
+
+    /// The entry is called with areas of all lengths from 0 on.
+    pub fn all_area_lengths(&mut self, sheet: &[u8]) -> Judged {
+        let outcome = report::outcome(sheet);
+        for side_length in 0..=LONGEST_AREA {
+            for report_length in 0..=LONGEST_AREA {
+                self.through_entry(sheet, &outcome, side_length, report_length)?;
+                match area_refusal(side_length, report_length) {
+                    Some(number) => self.count_refusal(number),
+                    None => self.count(&outcome),
+                }
+            }
+        }
+        Ok(())
+    }
+
+    fn count(&mut self, outcome: &Outcome) {
+        match outcome {
+            Err(refusal) => self.count_refusal(refusal.number),
+            Ok(answer) => {
+                self.row().accepted += 1;
+                self.answers.whole += u64::from(answer.verdict == reference::cuts::WHOLE);
+                self.answers.floor_zero += u64::from(answer.floor == 0);
+                self.answers.pair += u64::from(answer.candidate.second.is_some());
+                self.answers.later_tree += u64::from(answer.candidate.tree > 0);
+            }
+        }
+    }
+
+    fn count_refusal(&mut self, number: u32) {
+        self.row().refused += 1;
+        self.refusals[number as usize] += 1;
+    }
+
+    fn through_entry(&mut self, sheet: &[u8], outcome: &Outcome, side_length: usize, report_length: usize) -> Judged {
+        let mut side = Lent::area(side_length, &mut self.random);
+        let mut report = Lent::area(report_length, &mut self.random);
+        let (mut expected_side, mut expected_report) = (side.clone(), report.clone());
+        let expected_number = match (area_refusal(side_length, report_length), outcome) {
+            (Some(number), _) => number,
+            (None, Err(refusal)) => refusal.number,
+            (None, Ok(answer)) => {
+                expected_side = side.with_start(&report::side_area(answer));
+                expected_report = report.with_start(&report::report_area(answer));
+                0
+            }
+        };
+        let mut lent_sheet = Lent::sheet(sheet, &mut self.random);
+        let kept_sheet = lent_sheet.clone();
+        let number = entry::call(&mut lent_sheet, &mut side, &mut report);
+        self.row().entry += 1;
+        let areas_agree = side == expected_side && report == expected_report;
+        if number == expected_number && areas_agree && lent_sheet == kept_sheet {
+            return Ok(());
+        }
+        let expected = show_call(expected_number, &expected_side, &expected_report);
+        let mut got = show_call(number, &side, &report);
+        if lent_sheet != kept_sheet {
+            got.push_str(&format!("sheet changed to {}\n", lent_sheet.show()));
+        }
+        self.differs(sheet, expected, got)
+    }
+
+    fn through_program(&mut self, sheet: &[u8], outcome: &Outcome, pauses: &[usize]) -> Judged {
+        let printed = program::run(&self.program, sheet, pauses).map_err(Stop::CannotRun)?;
+        self.row().program += 1;
+        let expected = report::lines(outcome);
+        if printed.output == expected.as_bytes() && printed.errors.is_empty() && printed.ended {
+            return Ok(());
+        }
+        let mut got = String::from_utf8_lossy(&printed.output).into_owned();
+        if !printed.errors.is_empty() {
+            got.push_str(&format!("on standard error: {}\n", String::from_utf8_lossy(&printed.errors)));
+        }
+        if !printed.ended {
+            got.push_str("ended by a signal\n");
+        }
+        self.differs(sheet, expected, got)
+    }
+
+    /// Ends the comparison: the sheet has another answer than the expected one.
+    pub fn differs(&mut self, sheet: &[u8], expected: String, got: String) -> Judged {
+        Err(Stop::Differs(Difference { kind: self.row().kind.clone(), sheet: sheet.to_vec(), expected, got }))
+    }
+}
+
+/// Refusals 1 and 2, which stand before all others.
+fn area_refusal(side_length: usize, report_length: usize) -> Option<u32> {
+    if side_length < SIDE_BYTES {
+        Some(1)
+    } else if report_length < REPORT_BYTES {
+        Some(2)
+    } else {
+        None
+    }
+}
+
+fn show_call(number: u32, side: &Lent, report: &Lent) -> String {
+    let (side, report) = (side.show(), report.show());
+    format!("number {number}\nside area {side}\nreport area {report}\n")
+}

@@ -1,0 +1,114 @@
+//! Compares the monitor with the second implementation: the C entry of the archive that is linked in, and the report program.
+
+mod entry;
+mod inputs;
+mod judge;
+mod networks;
+mod program;
+mod sheets;
+mod soak;
+
+use std::path::PathBuf;
+use std::process::ExitCode;
+use std::time::{SystemTime, UNIX_EPOCH};
+
+use judge::{Judge, Judged, Stop};
+use networks::Counts;
+use reference::random::Random;
+
+const USAGE: &str = "\
+usage: compare PROGRAM [--seed S] [--soak N]
+
+Sends sheets to the C entry and to the report program PROGRAM, and holds number, areas and lines against the reference's.
+Without --soak: a fixed share of every kind, about a minute long, with seed 1 unless --seed gives another.
+With --soak N: N random cases with a new seed, which is printed first; --seed S --soak N runs the same cases again.
+Prints how many of what kind were run. The first answer that differs is printed with its sheet, and ends it with status 1.";
+
+const FIXED_SEED: u64 = 1;
+
+struct Settings {
+    program: PathBuf,
+    seed: Option<u64>,
+    soak: Option<u64>,
+}
+
+fn settings() -> Option<Settings> {
+    let mut arguments = std::env::args_os().skip(1);
+    let program = PathBuf::from(arguments.next().filter(|name| name != "--help")?);
+    let mut settings = Settings { program, seed: None, soak: None };
+    while let Some(name) = arguments.next() {
+        let value = arguments.next()?.to_str()?.parse().ok()?;
+        match name.to_str()? {
+            "--seed" => settings.seed = Some(value),
+            "--soak" => settings.soak = Some(value),
+            _ => return None,
+        }
+    }
+    Some(settings)
+}
+
+/// A seed from the clock, short enough to be typed.
+fn new_seed() -> u64 {
+    let now = SystemTime::now().duration_since(UNIX_EPOCH).unwrap_or_default();
+    Random::new(now.as_nanos() as u64).number() % 1_000_000_000
+}
+
+fn fixed_share(judge: &mut Judge, random: &mut Random) -> Judged {
+    sheets::documented(judge)?;
+    sheets::area_lengths(judge)?;
+    sheets::single_faults(judge, random, 12)?;
+    sheets::two_faults(judge, random, 20)?;
+    sheets::cut_sheets(judge, random)?;
+    sheets::changed_bytes(judge, random, 1000)?;
+    inputs::long_inputs(judge, random)?;
+    inputs::short_reads(judge, random)?;
+    networks::of_every_feature(judge, random, &Counts { small: 800, middle: 100, large: 8 })?;
+    networks::at_the_limits(judge, random)
+}
+
+fn print_table(judge: &Judge) {
+    println!("{:<44}{:>10}{:>10}{:>10}{:>10}", "kind", "entry", "program", "accepted", "refused");
+    for row in judge.rows.iter().filter(|row| row.entry + row.program > 0) {
+        println!("{:<44}{:>10}{:>10}{:>10}{:>10}", row.kind, row.entry, row.program, row.accepted, row.refused);
+    }
+    let answers = &judge.answers;
+    println!(
+        "accepted: {} whole, {} with floor 0, {} by a pair, {} by a later tree",
+        answers.whole, answers.floor_zero, answers.pair, answers.later_tree
+    );
+    let numbers = judge.refusals.iter().enumerate().skip(1);
+    let refusals: Vec<String> = numbers.map(|(number, count)| format!("{number}: {count}")).collect();
+    println!("refused: {}", refusals.join(", "));
+    println!(
+        "networks: {} by every side too, {} in a longer sheet than the shortest",
+        judge.by_every_side, judge.longer
+    );
+}
+
+fn main() -> ExitCode {
+    let Some(settings) = settings() else {
+        eprintln!("{USAGE}");
+        return ExitCode::from(2);
+    };
+    let default_seed = if settings.soak.is_some() { new_seed() } else { FIXED_SEED };
+    let seed = settings.seed.unwrap_or(default_seed);
+    let mut judge = Judge::new(settings.program, seed);
+    let mut random = Random::new(seed);
+    println!("seed {seed}");
+    let judged = match settings.soak {
+        Some(cases) => soak::run(&mut judge, &mut random, cases),
+        None => fixed_share(&mut judge, &mut random),
+    };
+    if let Err(Stop::CannotRun(error)) = judged {
+        eprintln!("the report program cannot be run: {error}");
+        return ExitCode::from(2);
+    }
+    print_table(&judge);
+    let cases = judge.cases();
+    if let Err(Stop::Differs(difference)) = judged {
+        println!("{difference}\ncompare: {cases} cases, 1 differs, seed {seed}");
+        return ExitCode::FAILURE;
+    }
+    println!("compare: {cases} cases, 0 differ, seed {seed}");
+    ExitCode::SUCCESS
+}

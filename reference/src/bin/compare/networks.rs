@@ -1,0 +1,118 @@
+//! Random networks of all sizes.
+
+use reference::generate::{self, Feature, Size, FEATURES};
+use reference::network::Network;
+use reference::random::Random;
+use reference::report;
+use reference::sheet::{self, LEAST_NODES, MOST_LINKS, MOST_NODES, MOST_TREES};
+use reference::{cuts, every_side};
+
+use crate::judge::{Judge, Judged, Through};
+
+/// From how many nodes on a network is no longer small, no longer of middle size.
+const MIDDLE_NODES: usize = every_side::MOST_NODES + 1;
+const LARGE_NODES: usize = 41;
+
+/// How many networks of each feature.
+pub struct Counts {
+    pub small: usize,
+    pub middle: usize,
+    pub large: usize,
+}
+
+/// Random networks of every feature.
+pub fn of_every_feature(judge: &mut Judge, random: &mut Random, counts: &Counts) -> Judged {
+    for feature in FEATURES {
+        judge.kind(&format!("networks: {}", feature.name()));
+        for _ in 0..counts.small {
+            small(judge, random, feature)?;
+        }
+        for _ in 0..counts.middle {
+            middle(judge, random, feature)?;
+        }
+        for _ in 0..counts.large {
+            large(judge, random, feature)?;
+        }
+    }
+    Ok(())
+}
+
+pub fn small(judge: &mut Judge, random: &mut Random, feature: Feature) -> Judged {
+    let size = generate::size(random, 2, every_side::MOST_NODES, feature);
+    let through = judge.both_once_in(2);
+    judged(judge, random, size, feature, through)
+}
+
+pub fn middle(judge: &mut Judge, random: &mut Random, feature: Feature) -> Judged {
+    let size = generate::size(random, MIDDLE_NODES, LARGE_NODES - 1, feature);
+    judged(judge, random, size, feature, Through::Both)
+}
+
+/// A network of many nodes; of few trees, since the reference takes long for many.
+pub fn large(judge: &mut Judge, random: &mut Random, feature: Feature) -> Judged {
+    let mut size = generate::size(random, LARGE_NODES, MOST_NODES, feature);
+    size.trees = size.trees.min(3);
+    judged(judge, random, size, feature, Through::Both)
+}
+
+/// Networks with as many nodes, links and trees as there may be, or as few, in many combinations.
+pub fn at_the_limits(judge: &mut Judge, random: &mut Random) -> Judged {
+    judge.kind("networks: at the limits of size");
+    for (size, feature) in limits() {
+        judged(judge, random, size, feature, Through::Both)?;
+    }
+    Ok(())
+}
+
+fn limits() -> Vec<(Size, Feature)> {
+    let largest = |links, trees| Size::new(MOST_NODES, links, trees);
+    let mut limits = vec![
+        (largest(MOST_LINKS, MOST_TREES), Feature::LaterTree),
+        (largest(MOST_LINKS, 1), Feature::SharesAtWeight),
+        (largest(MOST_LINKS, 1), Feature::Ties),
+        (largest(MOST_NODES - 1, 1), Feature::Ties),
+        (largest(MOST_NODES - 1, 2), Feature::LoadAtWeight),
+    ];
+    for feature in FEATURES {
+        for (nodes, links) in [(4, 5), (5, 20), (9, 64), (10, 65), (30, MOST_LINKS)] {
+            limits.push((Size::new(nodes, links, MOST_TREES), feature));
+        }
+        if feature != Feature::LaterTree {
+            for (links, trees) in [(1, 1), (1, MOST_TREES), (MOST_LINKS, 1), (MOST_LINKS, MOST_TREES)] {
+                limits.push((Size::new(LEAST_NODES, links, trees), feature));
+            }
+        }
+    }
+    limits
+}
+
+fn judged(judge: &mut Judge, random: &mut Random, size: Size, feature: Feature, through: Through) -> Judged {
+    let network = generate::network(random, size, feature);
+    let shortest = sheet::write(&network);
+    let sheet = if random.once_in(3) { generate::longer_sheet(random, &network) } else { shortest.clone() };
+    judge.longer += u64::from(sheet != shortest);
+    let answer = cuts::answer(&network);
+    let read = sheet::read(&sheet);
+    if read.as_ref() != Ok(&network) {
+        return judge.differs(&sheet, format!("{network:?}\n"), format!("{read:?}, by the reference's reader\n"));
+    }
+    if network.nodes <= every_side::MOST_NODES {
+        by_every_side(judge, &network, &sheet, &answer)?;
+    }
+    judge.expect(&sheet, &Ok(answer), through)
+}
+
+/// The same answer by every side, and the demands on it.
+fn by_every_side(judge: &mut Judge, network: &Network, sheet: &[u8], answer: &cuts::Answer) -> Judged {
+    judge.by_every_side += 1;
+    let expected = every_side::answer(network);
+    if expected != *answer {
+        let got = report::lines(&Ok(answer.clone()));
+        return judge.differs(sheet, report::lines(&Ok(expected)), got + "by the reference's component search\n");
+    }
+    let demands = every_side::check_demand(network, answer).and(every_side::check_candidates(network));
+    if let Err(broken) = demands {
+        return judge.differs(sheet, "what document 01 demands of every side\n".to_string(), broken + "\n");
+    }
+    Ok(())
+}

@@ -1,0 +1,171 @@
+//! Fixed sheets: document 01's networks, area lengths, faults, sheets cut and with single bytes changed.
+
+use reference::faults::{self, Base, Fault};
+use reference::generate::{self, Feature, Size};
+use reference::random::Random;
+use reference::report::{self, Outcome};
+use reference::sheet::{self, Refusal, MOST_LINKS, MOST_TREES};
+use reference::{documented, every_side};
+
+use crate::judge::{Judge, Judged, Through};
+
+/// Document 01's networks, whose lines the reference has to give too.
+pub fn documented(judge: &mut Judge) -> Judged {
+    judge.kind("document 01's networks");
+    for case in documented::all() {
+        let outcome = report::outcome(&case.sheet);
+        if report::lines(&outcome) != case.lines {
+            return judge.differs(&case.sheet, case.lines, report::lines(&outcome));
+        }
+        judge.expect(&case.sheet, &outcome, Through::Both)?;
+    }
+    Ok(())
+}
+
+/// Areas of every length from 0 to 40, with an accepted sheet, one of each refusal, and no byte at all.
+pub fn area_lengths(judge: &mut Judge) -> Judged {
+    judge.kind("areas of 0 to 40 bytes");
+    let base = &faults::bases()[1];
+    judge.all_area_lengths(&documented::CASE_A)?;
+    judge.all_area_lengths(&base.sheet)?;
+    judge.all_area_lengths(&[])?;
+    let mut seen = Vec::new();
+    for fault in faults::singles(base) {
+        if !seen.contains(&fault.refusal.number) {
+            seen.push(fault.refusal.number);
+            judge.all_area_lengths(&faults::damaged(base, &[&fault]))?;
+        }
+    }
+    Ok(())
+}
+
+/// A small random network's sheet, not always the shortest.
+pub fn random_base(random: &mut Random) -> Base {
+    let size = generate::size(random, 2, every_side::MOST_NODES, Feature::Any);
+    let network = generate::network(random, size, Feature::Any);
+    let mut maps = sheet::shortest_maps(&network.links);
+    if random.once_in(2) {
+        maps.iter_mut().for_each(|map| *map |= random.byte() & sheet::ALL_FIELDS);
+    }
+    Base::new(network, maps)
+}
+
+/// The faults' sheet is refused as the faults' definitions say, by the reference and by the monitor.
+pub fn refused(judge: &mut Judge, base: &Base, faults: &[&Fault], refusal: Refusal, through: Through) -> Judged {
+    let sheet = faults::damaged(base, faults);
+    let expected: Outcome = Err(refusal);
+    let read = report::outcome(&sheet);
+    if read != expected {
+        let got = format!("{read:?}, by the reference\n");
+        return judge.differs(&sheet, format!("{refusal:?}\n"), got);
+    }
+    judge.expect(&sheet, &expected, through)
+}
+
+/// Every single fault of the fixed bases and of random ones, and sheets that only look like one.
+pub fn single_faults(judge: &mut Judge, random: &mut Random, random_bases: usize) -> Judged {
+    judge.kind("single faults");
+    let mut bases = faults::bases();
+    bases.extend((0..random_bases).map(|_| random_base(random)));
+    for base in &bases {
+        for fault in faults::singles(base) {
+            let through = judge.both_once_in(2);
+            refused(judge, base, &[&fault], fault.refusal, through)?;
+        }
+        for sheet in faults::harmless(base) {
+            judge.sheet(&sheet, Through::Both)?;
+        }
+    }
+    Ok(())
+}
+
+/// Every pair of single faults of the fixed bases, and some of random ones.
+pub fn two_faults(judge: &mut Judge, random: &mut Random, random_bases: usize) -> Judged {
+    judge.kind("two faults");
+    for base in &faults::bases() {
+        let faults = faults::singles(base);
+        for (place, one) in faults.iter().enumerate() {
+            for other in &faults[place + 1..] {
+                let through = judge.both_once_in(60);
+                pair_of_faults(judge, base, one, other, through)?;
+            }
+        }
+    }
+    for _ in 0..random_bases {
+        let base = random_base(random);
+        let faults = faults::singles(&base);
+        for _ in 0..500 {
+            let one = &faults[random.below(faults.len())];
+            let other = &faults[random.below(faults.len())];
+            let through = judge.both_once_in(50);
+            pair_of_faults(judge, &base, one, other, through)?;
+        }
+    }
+    Ok(())
+}
+
+/// A sheet with two faults, unless one hides the other.
+fn pair_of_faults(judge: &mut Judge, base: &Base, one: &Fault, other: &Fault, through: Through) -> Judged {
+    match faults::first_refusal(one, other) {
+        Some(refusal) => refused(judge, base, &[one, other], refusal, through),
+        None => Ok(()),
+    }
+}
+
+/// A sheet of the greatest length with so many nodes.
+pub fn longest_sheet(random: &mut Random, nodes: usize) -> Base {
+    let size = Size::new(nodes, MOST_LINKS, MOST_TREES);
+    let network = generate::network(random, size, Feature::Any);
+    let maps = vec![sheet::ALL_FIELDS; MOST_LINKS];
+    Base::new(network, maps)
+}
+
+/// Small sheets and a longest one, cut at every length.
+pub fn cut_sheets(judge: &mut Judge, random: &mut Random) -> Judged {
+    judge.kind("sheets cut at every length");
+    for base in faults::bases() {
+        for end in 0..=base.sheet.len() {
+            judge.sheet(&base.sheet[..end], Through::Both)?;
+        }
+    }
+    let longest = longest_sheet(random, 20).sheet;
+    for end in 0..=longest.len() {
+        let through = judge.both_once_in(50);
+        judge.sheet(&longest[..end], through)?;
+    }
+    Ok(())
+}
+
+/// All bytes of small sheets changed to all values, some bytes of larger sheets to some.
+pub fn changed_bytes(judge: &mut Judge, random: &mut Random, changes: usize) -> Judged {
+    judge.kind("single bytes changed");
+    for base in faults::bases() {
+        let mut sheet = base.sheet.clone();
+        for at in 0..sheet.len() {
+            for value in 0..=u8::MAX {
+                sheet[at] = value;
+                let through = judge.both_once_in(60);
+                judge.sheet(&sheet, through)?;
+            }
+            sheet[at] = base.sheet[at];
+        }
+    }
+    let size = Size::new(30, 70, 3);
+    let middle = sheet::write(&generate::network(random, size, Feature::Any));
+    let longest = longest_sheet(random, 8).sheet;
+    for _ in 0..changes {
+        for base in [&middle, &longest] {
+            let through = judge.both_once_in(5);
+            judge.sheet(&changed(random, base), through)?;
+        }
+    }
+    Ok(())
+}
+
+/// The sheet with one byte changed.
+pub fn changed(random: &mut Random, sheet: &[u8]) -> Vec<u8> {
+    let mut changed = sheet.to_vec();
+    let at = random.below(sheet.len());
+    changed[at] ^= random.pick(&[1, 2, 4, 8, 16, 32, 64, 128, 255, 3, 6]);
+    changed
+}

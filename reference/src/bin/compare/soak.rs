@@ -1,0 +1,72 @@
+//! Random cases of all kinds, as many as are asked for.
+
+use reference::faults;
+use reference::generate::FEATURES;
+use reference::random::Random;
+
+use crate::judge::{Judge, Judged, Through};
+use crate::{networks, sheets};
+
+/// How many cases go by between two notes of progress.
+const CASES_PER_NOTE: u64 = 10_000;
+
+/// Runs so many random cases.
+pub fn run(judge: &mut Judge, random: &mut Random, cases: u64) -> Judged {
+    for case in 1..=cases {
+        match random.below(100) {
+            0..50 => network(judge, random)?,
+            50..65 => single_fault(judge, random)?,
+            65..80 => two_faults(judge, random)?,
+            80..88 => cut(judge, random)?,
+            _ => changed_byte(judge, random)?,
+        }
+        if case % CASES_PER_NOTE == 0 {
+            println!("{case} of {cases}");
+        }
+    }
+    Ok(())
+}
+
+fn network(judge: &mut Judge, random: &mut Random) -> Judged {
+    let feature = random.pick(&FEATURES);
+    judge.kind(&format!("networks: {}", feature.name()));
+    match random.below(100) {
+        0..75 => networks::small(judge, random, feature),
+        75..99 => networks::middle(judge, random, feature),
+        _ => networks::large(judge, random, feature),
+    }
+}
+
+fn single_fault(judge: &mut Judge, random: &mut Random) -> Judged {
+    judge.kind("single faults");
+    let base = sheets::random_base(random);
+    let faults = faults::singles(&base);
+    let fault = &faults[random.below(faults.len())];
+    sheets::refused(judge, &base, &[fault], fault.refusal, Through::Both)
+}
+
+fn two_faults(judge: &mut Judge, random: &mut Random) -> Judged {
+    judge.kind("two faults");
+    let base = sheets::random_base(random);
+    let faults = faults::singles(&base);
+    loop {
+        let one = &faults[random.below(faults.len())];
+        let other = &faults[random.below(faults.len())];
+        if let Some(refusal) = faults::first_refusal(one, other) {
+            return sheets::refused(judge, &base, &[one, other], refusal, Through::Both);
+        }
+    }
+}
+
+fn cut(judge: &mut Judge, random: &mut Random) -> Judged {
+    judge.kind("sheets cut");
+    let sheet = sheets::random_base(random).sheet;
+    let end = random.below(sheet.len());
+    judge.sheet(&sheet[..end], Through::Both)
+}
+
+fn changed_byte(judge: &mut Judge, random: &mut Random) -> Judged {
+    judge.kind("single bytes changed");
+    let sheet = sheets::random_base(random).sheet;
+    judge.sheet(&sheets::changed(random, &sheet), Through::Both)
+}

@@ -1,0 +1,202 @@
+//! Document 01's networks, starred or not, and its limits. The lines of each stand in document 01 or were reckoned by hand from
+//! its words.
+
+use crate::network::{Link, Network, Tree};
+use crate::sheet;
+
+pub struct Documented {
+    pub name: String,
+    pub sheet: Vec<u8>,
+    /// What the report program prints.
+    pub lines: String,
+}
+
+/// The bytes of case A, as document 01 gives them.
+pub const CASE_A: [u8; 35] = [
+    0x03, 0x00, 0x03, 0x00, 0x01, //
+    0x07, 0x00, 0x00, 0x01, 0x00, 0x03, 0x00, 0x00, 0x00, //
+    0x07, 0x01, 0x00, 0x02, 0x00, 0x02, 0x00, 0x00, 0x00, //
+    0x05, 0x00, 0x00, 0x04, 0x00, 0x00, 0x00, //
+    0x02, 0x00, 0x00, 0x00, 0x05,
+];
+/// Where the link map of case A's tree stands.
+const CASE_A_LINK_MAP: usize = 34;
+
+/// A network from its links (ends and weight) and its trees (share and members).
+pub fn network(nodes: usize, links: &[(usize, usize, u64)], trees: &[(u64, &[usize])]) -> Network {
+    let link = |&(first, second, weight): &(usize, usize, u64)| Link { first, second, weight };
+    let tree = |&(share, members): &(u64, &[usize])| Tree { share, members: members.to_vec() };
+    Network { nodes, links: links.iter().map(link).collect(), trees: trees.iter().map(tree).collect() }
+}
+
+fn documented(name: &str, sheet: Vec<u8>, lines: &str) -> Documented {
+    Documented { name: name.to_string(), sheet, lines: lines.to_string() }
+}
+
+/// All of them, case A first.
+pub fn all() -> Vec<Documented> {
+    [starred(), shares_of_one_link(), other_cases(), node_limits(), link_limits(), tree_limits()]
+        .into_iter()
+        .flatten()
+        .collect()
+}
+
+const RING: [(usize, usize, u64); 4] = [(0, 1, 1), (1, 2, 1), (2, 3, 1), (3, 0, 1)];
+
+type Links<'a> = &'a [(usize, usize, u64)];
+
+/// A network of one tree.
+fn one_tree(name: &str, nodes: usize, links: Links, tree: (u64, &[usize]), lines: &str) -> Documented {
+    documented(name, sheet::write(&network(nodes, links, &[tree])), lines)
+}
+
+fn starred() -> Vec<Documented> {
+    let triangle = [(0, 1, 3), (1, 2, 2), (0, 2, 4)];
+    let thick = [(0, 1, 1), (1, 2, 1), (0, 2, 10)];
+    let hidden = [(0, 1, 1), (1, 2, 1), (2, 3, 1), (0, 2, 10), (1, 3, 10)];
+    let a = "answer 2 5 5 0 0 - 1\nside 1\n";
+    let b = "answer 1 5 3 0 0 - 1\nside 1\n";
+    let c = "answer 2 2 2 0 0 - 3\nside 1 2 3\n";
+    let d = "answer 1 2 0 0 0 - 3\nside 1 2 3\n";
+    let e = "answer 2 2 2 0 0 1 1\nside 1\n";
+    let f = "answer 1 11 3 0 0 - 3\nside 1 2 3\n";
+    let g = "answer 2 0 0 0 0 - 1\nside 1\n";
+    vec![
+        documented("A", CASE_A.to_vec(), a),
+        one_tree("B", 3, &triangle, (1, &[0, 2]), b),
+        one_tree("C", 4, &RING, (1, &[0, 1, 2]), c),
+        one_tree("D", 4, &RING, (0, &[0, 1, 2]), d),
+        one_tree("E", 3, &thick, (1, &[0, 1]), e),
+        one_tree("F", 4, &hidden, (1, &[0, 1, 2]), f),
+        one_tree("G", 2, &[(0, 1, 0)], (7, &[0]), g),
+    ]
+}
+
+/// Network H with its four shares.
+fn shares_of_one_link() -> Vec<Documented> {
+    let lines = [
+        (1, "answer 1 4 3 0 0 - 1\nside 1\n"),
+        (2, "answer 2 4 4 0 0 - 1\nside 1\n"),
+        (4, "answer 2 4 4 0 0 - 1\nside 1\n"),
+        (5, "answer 1 4 0 0 0 - 1\nside 1\n"),
+    ];
+    let case = |(share, lines)| {
+        let name = format!("H, share {share}");
+        one_tree(&name, 2, &[(0, 1, 4)], (share, &[0]), lines)
+    };
+    lines.into_iter().map(case).collect()
+}
+
+fn other_cases() -> Vec<Documented> {
+    let two_trees = network(4, &RING, &[(0, &[0, 1, 2]), (0, &[1, 2, 3])]);
+    let too_many_members = network(4, &RING, &[(1, &[0, 1, 2, 3])]);
+    let parallel = network(4, &[(0, 1, 1), (1, 0, 1), (1, 2, 1), (2, 3, 1)], &[(1, &[0, 1, 2])]);
+    let too_few_links = network(3, &[(0, 1, 1)], &[(1, &[0])]);
+    let mut stray_bit = CASE_A.to_vec();
+    stray_bit[CASE_A_LINK_MAP] = 0x0D;
+    let mut one_byte_more = CASE_A.to_vec();
+    one_byte_more.push(0);
+    vec![
+        documented("I", sheet::write(&two_trees), "answer 1 2 0 0 0 - 3\nside 1 2 3\n"),
+        documented("three nodes with 1 link", sheet::write(&too_few_links), "refused 5\n"),
+        documented("A with link map 0x0D", stray_bit, "refused 13\n"),
+        documented("C with all four links in the tree", sheet::write(&too_many_members), "refused 14\n"),
+        documented("two of three members parallel", sheet::write(&parallel), "refused 15\n"),
+        documented("A with one byte more", one_byte_more, "refused 16\n"),
+    ]
+}
+
+/// A path of so many nodes from node 0, all weights and the only tree's share 1.
+fn path_sheet(nodes: usize) -> Vec<u8> {
+    let links: Vec<_> = (1..nodes).map(|node| (node - 1, node, 1)).collect();
+    let members: Vec<usize> = (0..links.len()).collect();
+    sheet::write(&network(nodes, &links, &[(1, &members)]))
+}
+
+/// So many parallel links of two nodes, and so many trees of link 0 alone with share 1.
+fn parallel_sheet(links: usize, weight: u64, trees: usize) -> Vec<u8> {
+    let tree: (u64, &[usize]) = (1, &[0]);
+    sheet::write(&network(2, &vec![(0, 1, weight); links], &vec![tree; trees]))
+}
+
+/// So many parallel links of two nodes with the greatest weight, and 32 trees of one link each with shares of the same size.
+fn greatest_floor_sheet(links: usize) -> Vec<u8> {
+    let members: Vec<usize> = (0..sheet::MOST_TREES).collect();
+    let tree = |member| (sheet::MOST_WEIGHT, std::slice::from_ref(member));
+    let trees: Vec<(u64, &[usize])> = members.iter().map(tree).collect();
+    sheet::write(&network(2, &vec![(0, 1, sheet::MOST_WEIGHT); links], &trees))
+}
+
+fn node_limits() -> Vec<Documented> {
+    let all_but_the_root: String = (1..256).map(|node| format!(" {node}")).collect();
+    let most_nodes = format!("answer 2 1 1 0 0 - 255\nside{all_but_the_root}\n");
+    let two_nodes = "answer 2 1 1 0 0 - 1\nside 1\n";
+    vec![
+        documented("1 node", path_sheet(1), "refused 4\n"),
+        documented("2 nodes", path_sheet(2), two_nodes),
+        documented("256 nodes", path_sheet(256), &most_nodes),
+        documented("257 nodes", path_sheet(257), "refused 4\n"),
+    ]
+}
+
+fn link_limits() -> Vec<Documented> {
+    let most_links = "answer 1 2048 3 0 0 - 1\nside 1\n";
+    let most_weight = "answer 1 1000000 3 0 0 - 1\nside 1\n";
+    let both = "answer 1 2048000000 3 0 0 - 1\nside 1\n";
+    let too_heavy = parallel_sheet(1, 1_000_001, 1);
+    vec![
+        documented("2,048 links", parallel_sheet(2048, 1, 1), most_links),
+        documented("2,049 links", parallel_sheet(2049, 1, 1), "refused 5\n"),
+        documented("weight 1,000,000", parallel_sheet(1, 1_000_000, 1), most_weight),
+        documented("weight 1,000,001", too_heavy, "refused 11\n"),
+        documented("2,048 of them", parallel_sheet(2048, 1_000_000, 1), both),
+    ]
+}
+
+fn tree_limits() -> Vec<Documented> {
+    let one_tree = "answer 1 32 3 0 0 - 1\nside 1\n";
+    let most_trees = "answer 2 32 32 0 0 - 1\nside 1\n";
+    let floor = "answer 1 2048000000 96000000 0 0 - 1\nside 1\n";
+    let whole = "answer 2 96000000 96000000 0 0 - 1\nside 1\n";
+    vec![
+        documented("no tree", parallel_sheet(1, 32, 0), "refused 6\n"),
+        documented("1 tree", parallel_sheet(1, 32, 1), one_tree),
+        documented("32 trees", parallel_sheet(1, 32, 32), most_trees),
+        documented("33 trees", parallel_sheet(1, 33, 33), "refused 6\n"),
+        documented("the greatest floor", greatest_floor_sheet(2048), floor),
+        documented("the same, whole", greatest_floor_sheet(96), whole),
+    ]
+}
+
+#[cfg(test)]
+mod tests {
+    use super::*;
+    use crate::{every_side, report};
+
+    #[test]
+    fn the_reference_answers_as_document_01() {
+        for case in all() {
+            assert_eq!(report::lines(&report::outcome(&case.sheet)), case.lines, "{}", case.name);
+        }
+    }
+
+    #[test]
+    fn every_side_answers_as_document_01() {
+        for case in all() {
+            match sheet::read(&case.sheet) {
+                Ok(network) if network.nodes <= every_side::MOST_NODES => {
+                    let answer = every_side::answer(&network);
+                    assert_eq!(every_side::check_demand(&network, &answer), Ok(()), "{}", case.name);
+                    assert_eq!(report::lines(&Ok(answer)), case.lines, "{}", case.name);
+                }
+                _ => {}
+            }
+        }
+    }
+
+    #[test]
+    fn the_writer_gives_case_a() {
+        let links = [(0, 1, 3), (1, 2, 2), (0, 2, 4)];
+        assert_eq!(sheet::write(&network(3, &links, &[(2, &[0, 2])])), CASE_A);
+    }
+}

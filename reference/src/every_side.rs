@@ -1,0 +1,260 @@
+//! The answer of a small network by every side, and the demands on the reported numbers, checked side by side. A side is a number
+//! whose bit k is node k.
+
+use crate::cuts::{Answer, Candidate, TREES_ONLY, WHOLE};
+use crate::network::{Network, Tree};
+
+/// Networks of more nodes have too many sides to try them all.
+pub const MOST_NODES: usize = 10;
+
+/// All sides without node 0.
+fn sides(network: &Network) -> impl Iterator<Item = u32> {
+    (1..1 << (network.nodes - 1)).map(|others: u32| others << 1)
+}
+
+fn crosses(network: &Network, side: u32, link: usize) -> bool {
+    let link = network.links[link];
+    (side >> link.first ^ side >> link.second) & 1 == 1
+}
+
+fn weigh(network: &Network, side: u32) -> u64 {
+    (0..network.links.len()).filter(|&link| crosses(network, side, link)).map(|link| network.links[link].weight).sum()
+}
+
+fn crossing_members(network: &Network, tree: &Tree, side: u32) -> Vec<usize> {
+    tree.members.iter().copied().filter(|&member| crosses(network, side, member)).collect()
+}
+
+fn nodes_of(network: &Network, side: u32) -> Vec<usize> {
+    (0..network.nodes).filter(|&node| side >> node & 1 == 1).collect()
+}
+
+/// A side that a tree shows, named by the members that it crosses.
+type Shown = (Candidate, u32);
+
+/// Every shown side with its weight, once for each tree that shows it.
+fn shown(network: &Network) -> Vec<Shown> {
+    let mut shown = Vec::new();
+    for side in sides(network) {
+        let weight = weigh(network, side);
+        for (tree, listed) in network.trees.iter().enumerate() {
+            let (first, second) = match crossing_members(network, listed, side)[..] {
+                [first] => (first, None),
+                [first, second] => (first, Some(second)),
+                _ => continue,
+            };
+            let candidate = Candidate { weight, tree, first, second };
+            shown.push((candidate, side));
+        }
+    }
+    shown
+}
+
+/// The floor that document 01 has for a reported weight.
+fn floor(network: &Network, weight: u64) -> u64 {
+    let add = |sum: u128, tree: &Tree| sum + u128::from(tree.share);
+    for (number, link) in network.links.iter().enumerate() {
+        let holders = network.trees.iter();
+        let load = holders.filter(|tree| tree.members.contains(&number)).fold(0, add);
+        if load > u128::from(link.weight) {
+            return 0;
+        }
+    }
+    let three_shares = 3 * network.trees.iter().fold(0, add);
+    if three_shares < u128::from(weight) {
+        three_shares as u64
+    } else {
+        weight
+    }
+}
+
+/// The answer of a sound network of at most [`MOST_NODES`] nodes.
+pub fn answer(network: &Network) -> Answer {
+    let first = shown(network).into_iter().min();
+    let (candidate, side) = first.expect("a sound network shows a side");
+    let floor = floor(network, candidate.weight);
+    let verdict = if candidate.weight == floor { WHOLE } else { TREES_ONLY };
+    Answer { verdict, floor, candidate, side: nodes_of(network, side) }
+}
+
+fn require(holds: bool, otherwise: &str) -> Result<(), String> {
+    if holds {
+        Ok(())
+    } else {
+        Err(otherwise.to_string())
+    }
+}
+
+/// Demand 3 of a reported answer, by every side of the whole network; the error says what does not hold.
+pub fn check_demand(network: &Network, answer: &Answer) -> Result<(), String> {
+    check_reported(network, answer)?;
+    let shows = |tree: &Tree, side: u32| crossing_members(network, tree, side).len() <= 2;
+    for side in sides(network) {
+        let weight = weigh(network, side);
+        let heavier = weight >= answer.candidate.weight;
+        let is_shown = network.trees.iter().any(|tree| shows(tree, side));
+        require(weight >= answer.floor, "a side is below the floor")?;
+        require(heavier || !is_shown, "a lighter side is shown")?;
+    }
+    Ok(())
+}
+
+/// The reported numbers fit the reported side.
+fn check_reported(network: &Network, answer: &Answer) -> Result<(), String> {
+    let candidate = answer.candidate;
+    let tree = network.trees.get(candidate.tree);
+    let tree = tree.ok_or("the tree is not listed")?;
+    let links: Vec<usize> = [candidate.first].into_iter().chain(candidate.second).collect();
+    let side = answer.side.iter().fold(0, |side, &node| side | 1 << node);
+    let crossed = crossing_members(network, tree, side);
+    let owed_floor = floor(network, candidate.weight);
+    let owed_verdict = match candidate.weight == answer.floor {
+        true => WHOLE,
+        false => TREES_ONLY,
+    };
+    require(side != 0, "the side is empty")?;
+    require(side & 1 == 0, "the side holds node 0")?;
+    require(weigh(network, side) == candidate.weight, "the weight")?;
+    require(crossed == links, "the side crosses other members")?;
+    require(answer.floor == owed_floor, "the floor")?;
+    require(answer.verdict == owed_verdict, "the verdict")
+}
+
+/// The members on the tree path between two nodes; none if the tree does not join them.
+pub fn path(network: &Network, tree: &Tree, from: usize, to: usize) -> Option<Vec<usize>> {
+    fn walk(network: &Network, tree: &Tree, at: usize, to: usize, walked: &mut Vec<usize>) -> bool {
+        if at == to {
+            return true;
+        }
+        for &member in &tree.members {
+            let link = network.links[member];
+            if walked.last() == Some(&member) || (link.first != at && link.second != at) {
+                continue;
+            }
+            walked.push(member);
+            if walk(network, tree, link.first + link.second - at, to, walked) {
+                return true;
+            }
+            walked.pop();
+        }
+        false
+    }
+    let mut walked = Vec::new();
+    walk(network, tree, from, to, &mut walked).then_some(walked)
+}
+
+/// Document 01's sides and weights of all candidates: each candidate has exactly one of the shown sides, it is the nodes whose
+/// path to node 0 uses exactly one of the candidate's links, and a pair weighs what the single weights and the paths say.
+pub fn check_candidates(network: &Network) -> Result<(), String> {
+    let mut shown = shown(network);
+    shown.sort_by_key(|(candidate, _)| (candidate.tree, candidate.first, candidate.second));
+    for (number, tree) in network.trees.iter().enumerate() {
+        let of_tree = |(candidate, _): &&Shown| candidate.tree == number;
+        let mut of_tree: Vec<Shown> = shown.iter().filter(of_tree).copied().collect();
+        check_sides(network, tree, &of_tree)?;
+        check_pairs(network, tree, &of_tree)?;
+        of_tree.dedup_by_key(|(candidate, _)| (candidate.first, candidate.second));
+        let candidates = tree.members.len() * (tree.members.len() + 1) / 2;
+        require(of_tree.len() == candidates, "a candidate has no side")?;
+    }
+    Ok(())
+}
+
+/// Each side of a tree is the nodes below exactly one of its links, so no other side has the same links.
+fn check_sides(network: &Network, tree: &Tree, shown: &[Shown]) -> Result<(), String> {
+    let to_root = paths(network, tree, (0..network.nodes).map(|node| (node, 0)))?;
+    for (candidate, side) in shown {
+        let below = |node: usize, link: usize| to_root[node].contains(&link);
+        let below_one = |node: usize| {
+            let below_second = candidate.second.is_some_and(|second| below(node, second));
+            below(node, candidate.first) != below_second
+        };
+        let nodes: Vec<usize> = (0..network.nodes).filter(|&node| below_one(node)).collect();
+        require(nodes_of(network, *side) == nodes, "the nodes below")?;
+    }
+    Ok(())
+}
+
+/// Each pair of a tree weighs its single weights less twice the links whose ends are joined by a path over both.
+fn check_pairs(network: &Network, tree: &Tree, shown: &[Shown]) -> Result<(), String> {
+    let ends = network.links.iter().map(|link| (link.first, link.second));
+    let joining = paths(network, tree, ends)?;
+    let single = |link: usize| {
+        let alone = |(candidate, _): &&Shown| (candidate.first, candidate.second) == (link, None);
+        let found = shown.iter().find(alone);
+        found.map_or(0, |(candidate, _)| candidate.weight)
+    };
+    for (candidate, _) in shown {
+        let Some(second) = candidate.second else {
+            continue;
+        };
+        let over_both = |path: &Vec<usize>| path.contains(&candidate.first) && path.contains(&second);
+        let links = network.links.iter().zip(&joining);
+        let both: u64 = links.filter(|(_, path)| over_both(path)).map(|(link, _)| link.weight).sum();
+        let singles = single(candidate.first) + single(second);
+        require(candidate.weight + 2 * both == singles, "a pair's weight")?;
+    }
+    Ok(())
+}
+
+fn paths(
+    network: &Network,
+    tree: &Tree,
+    ends: impl Iterator<Item = (usize, usize)>,
+) -> Result<Vec<Vec<usize>>, String> {
+    let between = |(from, to)| path(network, tree, from, to);
+    let paths: Option<Vec<Vec<usize>>> = ends.map(between).collect();
+    paths.ok_or("a tree does not join all nodes".to_string())
+}
+
+#[cfg(test)]
+mod tests {
+    use super::*;
+    use crate::documented;
+
+    /// Document 01's network E, whose answer is `answer 2 2 2 0 0 1 1`, `side 1`.
+    fn network() -> Network {
+        documented::network(3, &[(0, 1, 1), (1, 2, 1), (0, 2, 10)], &[(1, &[0, 1])])
+    }
+
+    #[test]
+    fn wrong_answers_are_noticed() {
+        let network = network();
+        let right = answer(&network);
+        assert_eq!(check_demand(&network, &right), Ok(()));
+        let changes: [fn(&mut Answer); 8] = [
+            |answer| answer.verdict = TREES_ONLY,
+            |answer| answer.floor = 1,
+            |answer| answer.candidate.weight = 3,
+            |answer| answer.candidate.tree = 1,
+            |answer| answer.candidate.first = 2,
+            |answer| answer.candidate.second = None,
+            |answer| answer.side = vec![0, 2],
+            |answer| answer.side = vec![],
+        ];
+        for change in changes {
+            let mut wrong = right.clone();
+            change(&mut wrong);
+            assert!(check_demand(&network, &wrong).is_err(), "{wrong:?}");
+        }
+    }
+
+    #[test]
+    fn a_heavier_shown_side_is_noticed() {
+        let network = network();
+        let candidate = Candidate { weight: 11, tree: 0, first: 0, second: None };
+        let heavier = Answer { verdict: TREES_ONLY, floor: 3, candidate, side: vec![1, 2] };
+        assert_eq!(check_reported(&network, &heavier), Ok(()));
+        assert!(check_demand(&network, &heavier).is_err());
+    }
+
+    #[test]
+    fn candidates_without_a_side_are_noticed() {
+        let mut network = network();
+        assert_eq!(check_candidates(&network), Ok(()));
+        network.trees[0].members = vec![0, 1, 2];
+        assert!(check_candidates(&network).is_err());
+        network.trees[0].members = vec![0];
+        assert!(check_candidates(&network).is_err());
+    }
+}

@@ -1,0 +1,460 @@
+//! Sound random networks of a given size, each with a feature that makes its answer hard to reckon.
+
+use crate::cuts;
+use crate::network::{Link, Network, Tree};
+use crate::random::Random;
+use crate::sheet::{self, MOST_LINKS, MOST_TREES, MOST_WEIGHT};
+
+#[derive(Clone, Copy, Debug)]
+pub struct Size {
+    pub nodes: usize,
+    pub links: usize,
+    pub trees: usize,
+}
+
+impl Size {
+    pub const fn new(nodes: usize, links: usize, trees: usize) -> Size {
+        Size { nodes, links, trees }
+    }
+}
+
+#[derive(Clone, Copy, Debug, PartialEq, Eq)]
+pub enum Feature {
+    /// Any weights and shares.
+    Any,
+    /// Weights of few values.
+    Ties,
+    /// Many links of weight 0.
+    WeightZero,
+    /// Most links have a parallel one.
+    Parallel,
+    /// Trees that are listed again and again.
+    EqualTrees,
+    /// No load exceeds its link's weight, and some equal it.
+    LoadAtWeight,
+    /// One load is its link's weight and 1.
+    LoadAboveWeight,
+    /// Three times the shares is the lightest weight, 1 less or 1 more.
+    SharesAtWeight,
+    /// Shares whose sums need more than 32 bits, some with a small remainder of 32 bits.
+    WideSums,
+    /// Weights of 1,000,000, and at most two less.
+    HeavyLinks,
+    /// A light side that the first trees do not show and a later one does. It takes at least [`LATER_TREE_SIZE`].
+    LaterTree,
+}
+
+const LATER_TREE_SIZE: Size = Size::new(4, 5, 2);
+
+pub const FEATURES: [Feature; 11] = [
+    Feature::Any,
+    Feature::Ties,
+    Feature::WeightZero,
+    Feature::Parallel,
+    Feature::EqualTrees,
+    Feature::LoadAtWeight,
+    Feature::LoadAboveWeight,
+    Feature::SharesAtWeight,
+    Feature::WideSums,
+    Feature::HeavyLinks,
+    Feature::LaterTree,
+];
+
+impl Feature {
+    pub fn name(self) -> &'static str {
+        match self {
+            Feature::Any => "any weights and shares",
+            Feature::Ties => "ties",
+            Feature::WeightZero => "weight 0",
+            Feature::Parallel => "parallel links",
+            Feature::EqualTrees => "equal trees",
+            Feature::LoadAtWeight => "load at its link's weight",
+            Feature::LoadAboveWeight => "load one above its link's weight",
+            Feature::SharesAtWeight => "three shares at the weight",
+            Feature::WideSums => "sums of more than 32 bits",
+            Feature::HeavyLinks => "weights at the limit",
+            Feature::LaterTree => "a later tree shows the lightest",
+        }
+    }
+}
+
+/// A size that a network of the feature can have, with nodes between the limits. Often few links and trees, sometimes many.
+pub fn size(random: &mut Random, least_nodes: usize, most_nodes: usize, feature: Feature) -> Size {
+    let least = match feature {
+        Feature::LaterTree => LATER_TREE_SIZE,
+        _ => Size::new(2, 1, 1),
+    };
+    let nodes = random.between(least_nodes.max(least.nodes), most_nodes);
+    let most_more = match random.below(8) {
+        0 => 0,
+        1..4 => 4,
+        4..7 => 2 * nodes,
+        _ => 8 * nodes,
+    };
+    let least_links = nodes - 1 + least.links - (least.nodes - 1);
+    let links = (least_links + random.between(0, most_more)).min(MOST_LINKS);
+    let most_trees = random.pick(&[1, 2, 3, 5, 8, MOST_TREES]);
+    let trees = random.between(1, most_trees).max(least.trees);
+    Size::new(nodes, links, trees)
+}
+
+/// A sound network of that size.
+pub fn network(random: &mut Random, size: Size, feature: Feature) -> Network {
+    let mut network = match feature {
+        Feature::LaterTree => with_light_side(random, size),
+        _ => {
+            let mut network = joined(random, size, feature);
+            weigh(random, &mut network, feature);
+            network
+        }
+    };
+    share(random, &mut network, feature);
+    match feature {
+        Feature::LoadAtWeight => fit_weights(random, &mut network),
+        Feature::LoadAboveWeight => {
+            fit_weights(random, &mut network);
+            overload_one(random, &mut network);
+        }
+        Feature::SharesAtWeight => fit_shares(random, &mut network),
+        _ => {}
+    }
+    network
+}
+
+/// The sheet of a network with some fields written though they equal those of the link before.
+pub fn longer_sheet(random: &mut Random, network: &Network) -> Vec<u8> {
+    let mut maps = sheet::shortest_maps(&network.links);
+    let all = random.once_in(4);
+    for map in &mut maps {
+        *map |= if all { sheet::ALL_FIELDS } else { random.byte() & sheet::ALL_FIELDS };
+    }
+    sheet::write_with_maps(network, &maps)
+}
+
+/// The ends of links that join all nodes as a tree: random, a path, a star, or a caterpillar.
+fn base_tree(random: &mut Random, nodes: usize) -> Vec<(usize, usize)> {
+    let mut order: Vec<usize> = (0..nodes).collect();
+    random.shuffle(&mut order);
+    let shape = random.below(4);
+    let spine = nodes.div_ceil(2);
+    let join = |place: usize, random: &mut Random| match shape {
+        0 => random.below(place),
+        1 => place - 1,
+        2 => 0,
+        _ if place < spine => place - 1,
+        _ => random.below(spine),
+    };
+    (1..nodes).map(|place| (order[join(place, random)], order[place])).collect()
+}
+
+/// The ends of so many links. The first join all nodes as a tree.
+fn joining_ends(random: &mut Random, size: Size, feature: Feature) -> Vec<(usize, usize)> {
+    let nodes: Vec<usize> = (0..size.nodes).collect();
+    let mut ends = base_tree(random, size.nodes);
+    while ends.len() < size.links {
+        let again = match feature {
+            Feature::Parallel => !random.once_in(4),
+            _ => random.once_in(8),
+        };
+        let pair = match again {
+            true => random.pick(&ends),
+            false => two_of(random, &nodes),
+        };
+        ends.push(pair);
+    }
+    for pair in &mut ends {
+        if random.once_in(2) {
+            *pair = (pair.1, pair.0);
+        }
+    }
+    ends
+}
+
+/// Two different nodes.
+fn two_of(random: &mut Random, nodes: &[usize]) -> (usize, usize) {
+    let first = random.below(nodes.len());
+    let second = (first + random.between(1, nodes.len() - 1)) % nodes.len();
+    (nodes[first], nodes[second])
+}
+
+/// Links and trees without weights and shares.
+fn joined(random: &mut Random, size: Size, feature: Feature) -> Network {
+    let ends = joining_ends(random, size, feature);
+    let places = arrange(random, &ends);
+    let mut network = without_trees(size.nodes, &ends, &places, |_| 0);
+    let base: Vec<usize> = (0..size.links).filter(|&link| places[link] < size.nodes - 1).collect();
+    for _ in 0..size.trees {
+        let members = members(random, &network, &base, feature);
+        network.trees.push(Tree { share: 0, members });
+    }
+    network
+}
+
+/// The links in the order of their places, weighed by place.
+fn without_trees(
+    nodes: usize,
+    ends: &[(usize, usize)],
+    places: &[usize],
+    mut weight: impl FnMut(usize) -> u64,
+) -> Network {
+    let link = |&place: &usize| Link { first: ends[place].0, second: ends[place].1, weight: weight(place) };
+    Network { nodes, links: places.iter().map(link).collect(), trees: Vec::new() }
+}
+
+/// An order of the links: as they are, shuffled, or by their ends, so that ends repeat.
+fn arrange(random: &mut Random, ends: &[(usize, usize)]) -> Vec<usize> {
+    let mut places: Vec<usize> = (0..ends.len()).collect();
+    match random.below(4) {
+        0 => {}
+        1 => places.sort_by_key(|&place| ends[place].0),
+        _ => random.shuffle(&mut places),
+    }
+    places
+}
+
+/// The members of one more tree: the base tree, a tree that is listed already, or another.
+fn members(random: &mut Random, network: &Network, base: &[usize], feature: Feature) -> Vec<usize> {
+    let listed = &network.trees;
+    let again = if feature == Feature::EqualTrees { !random.once_in(4) } else { random.once_in(6) };
+    if !listed.is_empty() && again {
+        return listed[random.below(listed.len())].members.clone();
+    }
+    if random.once_in(if listed.is_empty() { 2 } else { 4 }) {
+        return base.to_vec();
+    }
+    let mut order: Vec<usize> = (0..network.links.len()).collect();
+    random.shuffle(&mut order);
+    spanning_members(network, &order)
+}
+
+/// The links that join two components when they are added in that order; their numbers rising.
+fn spanning_members(network: &Network, order: &[usize]) -> Vec<usize> {
+    let mut component: Vec<usize> = (0..network.nodes).collect();
+    let mut members = Vec::new();
+    for &link in order {
+        let kept = component[network.links[link].first];
+        let merged = component[network.links[link].second];
+        if kept != merged {
+            component.iter_mut().filter(|entry| **entry == merged).for_each(|entry| *entry = kept);
+            members.push(link);
+        }
+    }
+    members.sort_unstable();
+    members
+}
+
+fn weigh(random: &mut Random, network: &mut Network, feature: Feature) {
+    let (least, most) = match feature {
+        Feature::Any | Feature::WideSums => (0, random.pick(&[10, 1000, MOST_WEIGHT])),
+        Feature::Ties | Feature::EqualTrees => random.pick(&[(1, 1), (1, 2), (0, 2), (5, 7)]),
+        Feature::SharesAtWeight => random.pick(&[(2, 4), (10, 20), (1000, 2000)]),
+        Feature::HeavyLinks => (MOST_WEIGHT - random.pick(&[0, 1, 2]), MOST_WEIGHT),
+        _ => (0, random.pick(&[2, 5, 100])),
+    };
+    for link in &mut network.links {
+        link.weight = random.between(least as usize, most as usize) as u64;
+        if feature == Feature::WeightZero && !random.once_in(3) {
+            link.weight = 0;
+        }
+    }
+}
+
+fn share(random: &mut Random, network: &mut Network, feature: Feature) {
+    let bits = random.between(0, 32);
+    let most = random.pick(&[1, 2, 30]);
+    for tree in &mut network.trees {
+        tree.share = match feature {
+            Feature::Any => random.number() & ((1 << bits) - 1),
+            Feature::LoadAtWeight | Feature::LoadAboveWeight => random.between(1, 1 + most) as u64,
+            Feature::WideSums => u64::from(u32::MAX) - random.pick(&[0, 0, 1, u64::from(u32::MAX / 3 * 2)]),
+            Feature::HeavyLinks => random.pick(&[0, MOST_WEIGHT / 32, MOST_WEIGHT / 3, MOST_WEIGHT, MOST_WEIGHT + 1]),
+            _ => random.between(0, most) as u64,
+        };
+    }
+    if feature == Feature::WideSums && network.trees.len() >= 2 && !random.once_in(3) {
+        wrap_shares(random, network);
+    }
+    if feature == Feature::HeavyLinks && random.once_in(2) {
+        share_evenly(network);
+    }
+}
+
+/// Gives all trees the same share, the greatest that loads links of the greatest weight no more than they bear.
+fn share_evenly(network: &mut Network) {
+    network.trees.iter_mut().for_each(|tree| tree.share = 1);
+    let most_holders = cuts::loads(network).into_iter().max().unwrap_or(1);
+    let share = MOST_WEIGHT / most_holders;
+    network.trees.iter_mut().for_each(|tree| tree.share = share);
+}
+
+/// Makes all trees equal, with shares whose sum is 2^32 and a little more, and weights above that little.
+fn wrap_shares(random: &mut Random, network: &mut Network) {
+    let little = random.below(4) as u64;
+    let members = network.trees[0].members.clone();
+    for tree in &mut network.trees {
+        *tree = Tree { share: 0, members: members.clone() };
+    }
+    let first = 1 + random.number() % u64::from(u32::MAX);
+    network.trees[0].share = first;
+    network.trees[1].share = ((1 << 32) - first + little).min(u64::from(u32::MAX));
+    for link in &mut network.links {
+        link.weight = link.weight.max(little);
+    }
+}
+
+/// Weights that no load exceeds; about half of the loads equal their link's weight.
+fn fit_weights(random: &mut Random, network: &mut Network) {
+    let tight = random.pick(&network.trees[0].members);
+    for (link, load) in cuts::loads(network).into_iter().enumerate() {
+        let spare = if random.once_in(2) { random.below(20) as u64 } else { 0 };
+        network.links[link].weight = load + if link == tight { 0 } else { spare };
+    }
+}
+
+/// Takes the weight of one member to one below its load.
+fn overload_one(random: &mut Random, network: &mut Network) {
+    let member = random.pick(&network.trees[0].members);
+    network.links[member].weight = cuts::loads(network)[member] - 1;
+}
+
+/// Shares whose threefold sum is as near to the lightest weight as can be, and weights that the loads do not exceed where a few
+/// attempts reach that.
+fn fit_shares(random: &mut Random, network: &mut Network) {
+    const ATTEMPTS: usize = 6;
+    for _ in 0..ATTEMPTS {
+        let mut left = (cuts::answer(network).candidate.weight + 1) / 3;
+        let last = network.trees.len() - 1;
+        for (place, tree) in network.trees.iter_mut().enumerate() {
+            tree.share = if place == last { left } else { random.between(0, left as usize) as u64 };
+            left -= tree.share;
+        }
+        if !cuts::overloaded(network) {
+            return;
+        }
+        for (link, load) in cuts::loads(network).into_iter().enumerate() {
+            network.links[link].weight = network.links[link].weight.max(load).min(MOST_WEIGHT);
+        }
+    }
+    let shares = (cuts::answer(network).candidate.weight + 1) / 3;
+    network.trees.iter_mut().for_each(|tree| tree.share = 0);
+    network.trees[0].share = shares;
+}
+
+/// How many light links [`light_side_ends`] starts with.
+const LIGHT_LINKS: usize = 3;
+
+/// The ends of so many links: first the light ones, a path that crosses a side three times, then links that do not cross it.
+fn light_side_ends(random: &mut Random, size: Size) -> Vec<(usize, usize)> {
+    let mut order: Vec<usize> = (0..size.nodes).collect();
+    random.shuffle(&mut order);
+    let (inside, outside) = order.split_at(random.between(2, size.nodes - 2));
+    let mut ends = vec![(inside[0], outside[0]), (outside[0], inside[1]), (inside[1], outside[1])];
+    for part in [inside, outside] {
+        ends.extend((1..part.len()).map(|place| (part[random.below(place)], part[place])));
+    }
+    while ends.len() < size.links {
+        let part = random.pick(&[inside, outside]);
+        ends.push(two_of(random, part));
+    }
+    ends
+}
+
+/// A network with one light side: the first trees hold all three links across it, the later ones a single one.
+fn with_light_side(random: &mut Random, size: Size) -> Network {
+    let ends = light_side_ends(random, size);
+    let mut places: Vec<usize> = (0..ends.len()).collect();
+    random.shuffle(&mut places);
+    let mut network = without_trees(size.nodes, &ends, &places, |place| {
+        let (least, most) = if place < LIGHT_LINKS { (0, 3) } else { (100, 200) };
+        random.between(least, most) as u64
+    });
+    let hiding = match random.once_in(2) {
+        true => size.trees - 1,
+        false => random.between(1, size.trees - 1),
+    };
+    for tree in 0..size.trees {
+        let mut order: Vec<usize> = (0..ends.len()).collect();
+        random.shuffle(&mut order);
+        order.sort_by_key(|&link| (places[link] < LIGHT_LINKS) != (tree < hiding));
+        let members = spanning_members(&network, &order);
+        network.trees.push(Tree { share: 0, members });
+    }
+    network
+}
+
+#[cfg(test)]
+mod tests {
+    use super::*;
+    use crate::every_side;
+    use std::collections::BTreeSet;
+
+    fn small(random: &mut Random, feature: Feature) -> Network {
+        let size = size(random, 2, every_side::MOST_NODES, feature);
+        network(random, size, feature)
+    }
+
+    #[test]
+    fn networks_are_sound_and_both_methods_agree() {
+        let mut random = Random::new(1);
+        for feature in FEATURES {
+            for _ in 0..40 {
+                let network = small(&mut random, feature);
+                assert_eq!(sheet::read(&sheet::write(&network)), Ok(network.clone()));
+                assert_eq!(sheet::read(&longer_sheet(&mut random, &network)), Ok(network.clone()));
+                let answer = cuts::answer(&network);
+                assert_eq!(answer, every_side::answer(&network));
+                assert_eq!(every_side::check_demand(&network, &answer), Ok(()));
+                assert_eq!(every_side::check_candidates(&network), Ok(()));
+            }
+        }
+    }
+
+    #[test]
+    fn loads_stand_at_the_edge() {
+        let mut random = Random::new(2);
+        for _ in 0..50 {
+            let at = small(&mut random, Feature::LoadAtWeight);
+            let tight = |network: &Network, more: u64| {
+                let loads = cuts::loads(network);
+                loads.iter().zip(&network.links).any(|(&load, link)| load > 0 && load == link.weight + more)
+            };
+            assert!(!cuts::overloaded(&at) && tight(&at, 0));
+            let above = small(&mut random, Feature::LoadAboveWeight);
+            assert!(cuts::overloaded(&above) && tight(&above, 1));
+        }
+    }
+
+    #[test]
+    fn three_shares_stand_at_the_weight_below_and_above() {
+        let mut random = Random::new(3);
+        let mut seen = BTreeSet::new();
+        for _ in 0..100 {
+            let network = small(&mut random, Feature::SharesAtWeight);
+            let weight = cuts::answer(&network).candidate.weight as i64;
+            let difference = cuts::three_shares(&network) as i64 - weight;
+            assert!(difference.abs() <= 1);
+            seen.insert((difference, cuts::overloaded(&network)));
+        }
+        assert!([-1, 0, 1].iter().all(|&difference| seen.contains(&(difference, false))));
+    }
+
+    #[test]
+    fn sums_wrap_in_32_bits_without_overload_there() {
+        let mut random = Random::new(4);
+        let wraps = |network: &Network| {
+            let loads = cuts::loads(network);
+            let fits = |(&load, link): (&u64, &Link)| u64::from(load as u32) <= link.weight;
+            cuts::overloaded(network) && loads.iter().zip(&network.links).all(fits)
+        };
+        assert!((0..100).filter(|_| wraps(&small(&mut random, Feature::WideSums))).count() > 10);
+    }
+
+    #[test]
+    fn later_trees_are_reported() {
+        let mut random = Random::new(5);
+        for _ in 0..100 {
+            let network = small(&mut random, Feature::LaterTree);
+            assert!(cuts::answer(&network).candidate.tree > 0);
+        }
+    }
+}

@@ -1,0 +1,12 @@
+//! The weakest-cut monitor a second time, written from document 01 alone and by another method: a reader and a writer of link
+//! sheets, two ways to the answer, networks as text, and what the comparison with the monitor needs.
+
+pub mod cuts;
+pub mod documented;
+pub mod every_side;
+pub mod faults;
+pub mod generate;
+pub mod network;
+pub mod random;
+pub mod report;
+pub mod sheet;
