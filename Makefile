@@ -1,4 +1,5 @@
-# make demo                  the reports of document 01's starred networks
+# make demo                  the reports of the networks in examples/, and what they mean
+# make demo NET=file         the report of a network of yours, as text
 # make test                  prove and test everything; the last line is `N passed, 0 failed`
 # make soak [N=100000]       compare so many random cases with the reference; SEED=.. repeats a run
 # make bench                 the entry's time against the same method in plain Rust, as ratios

@@ -4,9 +4,11 @@
 pub mod cuts;
 pub mod documented;
 pub mod every_side;
+pub mod explain;
 pub mod faults;
 pub mod generate;
 pub mod network;
 pub mod random;
 pub mod report;
 pub mod sheet;
+pub mod text;

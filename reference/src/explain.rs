@@ -1,0 +1,207 @@
+//! The report program's lines read back, and what they mean in plain words.
+
+#[cfg(test)]
+mod tests;
+
+use crate::cuts::{self, Answer, Candidate};
+use crate::network::{Link, Network};
+use crate::report;
+use crate::sheet::{Place, Refusal, LEAST_NODES, MOST_LINKS, MOST_NODES, MOST_TREES, MOST_WEIGHT};
+
+/// How many nodes of a side a sentence names.
+const MOST_NAMED_NODES: usize = 12;
+
+/// Document 01's words for the refusal numbers, from 1 on.
+const MEANINGS: [&str; 16] = [
+    "the side area has fewer than 32 bytes",
+    "the report area has fewer than 16 bytes",
+    "the sheet has fewer than 5 bytes",
+    "the node count is below 2 or above 256",
+    "the link count is below the node count less 1, or above 2,048",
+    "the tree count is 0 or above 32",
+    "no map byte is left for a link",
+    "a map byte exceeds 7, or link 0's map byte is not 7",
+    "the sheet ends before the last byte of a field whose bit stands",
+    "an end is not below the node count, or both ends are equal",
+    "a weight exceeds 1,000,000",
+    "the sheet ends inside or before a tree record",
+    "a link map has a bit set from the link count up",
+    "the ones in a link map are not the node count less 1",
+    "the member links do not join every node to node 0",
+    "bytes follow the last tree",
+];
+
+/// What a refusal number means, in document 01's words; none for a number that is no refusal.
+pub fn meaning(number: u32) -> Option<&'static str> {
+    let place = usize::try_from(number).ok()?.checked_sub(1)?;
+    MEANINGS.get(place).copied()
+}
+
+/// What is wrong with a network whose sheet is refused, with the network's own numbers.
+pub fn refusal_of(network: &Network, refusal: &Refusal) -> String {
+    let (nodes, links, trees) = (network.nodes, network.links.len(), network.trees.len());
+    match (refusal.number, refusal.place) {
+        (4, _) => format!("the node count is {nodes}, and the monitor takes {LEAST_NODES} to {MOST_NODES}"),
+        (5, _) if links > MOST_LINKS => {
+            format!("the link count is {links}, and the monitor takes at most {MOST_LINKS}")
+        }
+        (5, _) => format!("the link count is {links}, and {nodes} nodes need at least {}", nodes - 1),
+        (6, _) => format!("the tree count is {trees}, and the monitor takes 1 to {MOST_TREES}"),
+        (10, Place::Link(place)) => wrong_ends(nodes, place, &network.links[place]),
+        (11, Place::Link(place)) => {
+            let weight = network.links[place].weight;
+            format!("link {place} weighs {weight}, and the monitor takes at most {MOST_WEIGHT}")
+        }
+        (14, Place::Tree(place)) => {
+            let members = network.trees[place].members.len();
+            format!("tree {place} names {members} of the links, and a tree of {nodes} nodes has {}", nodes - 1)
+        }
+        (15, Place::Tree(place)) => format!("the links of tree {place} do not join every node to node 0"),
+        (number, _) => meaning(number).unwrap_or("for a reason without a name").to_string(),
+    }
+}
+
+fn wrong_ends(nodes: usize, place: usize, link: &Link) -> String {
+    let highest = link.first.max(link.second);
+    if highest >= nodes {
+        return format!("link {place} ends at node {highest}, and the nodes are 0 to {}", nodes - 1);
+    }
+    format!("link {place} has node {highest} at both ends")
+}
+
+/// A record of a sheet in words.
+pub fn place_name(place: Place) -> String {
+    match place {
+        Place::Header => "the header".to_string(),
+        Place::Link(link) => format!("link {link}"),
+        Place::Tree(tree) => format!("tree {tree}"),
+        Place::End => "the end".to_string(),
+    }
+}
+
+/// What the report program printed.
+#[derive(Clone, Debug, PartialEq, Eq)]
+pub enum Printed {
+    Refused(u32),
+    Answered(Answer),
+}
+
+/// Reads the report program's output; none if it is not laid out as document 01 says.
+pub fn parse_lines(output: &str) -> Option<Printed> {
+    let words: Vec<&str> = output.split_whitespace().collect();
+    let (printed, laid_out) = match words[..] {
+        ["refused", number] => {
+            let number = number.parse().ok().filter(|&number| meaning(number).is_some())?;
+            (Printed::Refused(number), format!("refused {number}\n"))
+        }
+        _ => {
+            let answer = parse_answer(&words)?;
+            (Printed::Answered(answer.clone()), report::lines(&Ok(answer)))
+        }
+    };
+    (laid_out == output).then_some(printed)
+}
+
+/// The answer in the words of both lines. That the number of nodes is right shows when the answer is laid out again.
+fn parse_answer(words: &[&str]) -> Option<Answer> {
+    let ["answer", verdict, weight, floor, tree, first, second, _, "side", side @ ..] = words else {
+        return None;
+    };
+    let candidate = Candidate {
+        weight: weight.parse().ok()?,
+        tree: tree.parse().ok()?,
+        first: first.parse().ok()?,
+        second: if *second == "-" { None } else { Some(second.parse().ok()?) },
+    };
+    let side = side.iter().map(|node| node.parse().ok()).collect::<Option<_>>()?;
+    Some(Answer { verdict: verdict.parse().ok()?, floor: floor.parse().ok()?, candidate, side })
+}
+
+/// The links with exactly one end in a side.
+fn crossing<'a>(network: &'a Network, side: &'a [usize]) -> impl Iterator<Item = &'a Link> {
+    network.links.iter().filter(|link| side.contains(&link.first) != side.contains(&link.second))
+}
+
+/// Says in what an answer contradicts the network that it was given for, or itself.
+fn contradiction(network: &Network, answer: &Answer) -> Option<&'static str> {
+    let Answer { verdict, floor, candidate, side } = answer;
+    let rising = side.windows(2).all(|pair| pair[0] < pair[1]);
+    if side.is_empty() || !rising || side[0] == 0 || side.iter().any(|&node| node >= network.nodes) {
+        return Some("the side is not some of the nodes behind node 0, rising");
+    }
+    let Some(tree) = network.trees.get(candidate.tree) else {
+        return Some("the network has no such tree");
+    };
+    let mut named = [Some(candidate.first), candidate.second].into_iter().flatten();
+    if !named.all(|link| tree.members.contains(&link)) {
+        return Some("a link is not one of the tree's");
+    }
+    if candidate.second.is_some_and(|second| second <= candidate.first) {
+        return Some("the second link is not behind the first");
+    }
+    if crossing(network, side).map(|link| link.weight).sum::<u64>() != candidate.weight {
+        return Some("the links that cross the side have another weight");
+    }
+    let whole = *verdict == cuts::WHOLE && *floor == candidate.weight;
+    let trees_only = *verdict == cuts::TREES_ONLY && *floor < candidate.weight;
+    if !whole && !trees_only {
+        return Some("verdict, weight and floor do not go together");
+    }
+    None
+}
+
+/// What an answer means for its network; an error if it cannot be an answer for it.
+pub fn sentence(network: &Network, answer: &Answer) -> Result<String, &'static str> {
+    if let Some(contradiction) = contradiction(network, answer) {
+        return Err(contradiction);
+    }
+    let Candidate { weight, tree, first, second } = answer.candidate;
+    let names = match second {
+        None => format!("Link {first} of tree {tree} names the cut"),
+        Some(second) => format!("Links {first} and {second} of tree {tree} name the cut"),
+    };
+    let weighs = match crossing(network, &answer.side).count() {
+        1 => format!("the one link that it crosses weighs {weight}"),
+        _ => format!("the links that it crosses weigh {weight} together"),
+    };
+    let severed = node_list(&answer.side);
+    Ok(format!("{names}: it severs {severed} from node 0, and {weighs}. {}", promise(network, answer)?))
+}
+
+/// What the answer promises about all cuts of the network.
+fn promise(network: &Network, answer: &Answer) -> Result<String, &'static str> {
+    if answer.verdict == cuts::WHOLE {
+        return Ok("No cut of the whole network weighs less.".to_string());
+    }
+    let lightest = "No cut that the listed trees show is lighter";
+    if answer.floor > 0 {
+        let rest = "the whole network may hold one, but none that weighs less than";
+        return Ok(format!("{lightest}; {rest} {}.", answer.floor));
+    }
+    let reason = if let Some((link, load)) = first_overload(network) {
+        let weight = network.links[link].weight;
+        format!("The shares of the trees that hold link {link} are {load} together, more than its weight of {weight}")
+    } else if network.trees.iter().all(|tree| tree.share == 0) {
+        "All shares are 0".to_string()
+    } else {
+        return Err("the floor is 0 without a reason");
+    };
+    Ok(format!("{lightest}. {reason}, so nothing is known of the cuts that no tree shows."))
+}
+
+/// The first link whose load exceeds its weight, and its load.
+fn first_overload(network: &Network) -> Option<(usize, u64)> {
+    let mut loads = cuts::loads(network).into_iter().enumerate();
+    loads.find(|&(link, load)| load > network.links[link].weight)
+}
+
+/// `node 1`, `nodes 1 and 2`, and for many nodes the first ones and how many more there are.
+fn node_list(nodes: &[usize]) -> String {
+    let named: Vec<String> = nodes.iter().take(MOST_NAMED_NODES).map(usize::to_string).collect();
+    match (nodes.len() - named.len(), &named[..]) {
+        (0, [only]) => format!("node {only}"),
+        (0, [front @ .., last]) => format!("nodes {} and {last}", front.join(", ")),
+        (1, front) => format!("nodes {} and 1 more node", front.join(", ")),
+        (more, front) => format!("nodes {} and {more} more nodes", front.join(", ")),
+    }
+}

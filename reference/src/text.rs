@@ -1,0 +1,186 @@
+//! Networks as text, in document 01's notation: from text to a network or a fault that names its line, and back.
+//! docs/NETWORKS.md describes the form.
+
+mod line;
+#[cfg(test)]
+mod tests;
+
+use crate::network::{Link, Network, Tree};
+use crate::sheet::{Place, Refusal, MOST_LINKS, MOST_TREES};
+use line::Line;
+use std::fmt::Write;
+
+/// The largest numbers that the fields of a sheet hold.
+const MOST_IN_TWO_BYTES: u64 = u16::MAX as u64;
+const MOST_IN_FOUR_BYTES: u64 = u32::MAX as u64;
+const MOST_LINK_LINES: usize = u16::MAX as usize;
+const MOST_TREE_LINES: usize = u8::MAX as usize;
+
+/// Why a text cannot be written down as a sheet. Lines are numbered from 1.
+#[derive(Clone, Debug, PartialEq, Eq)]
+pub struct Fault {
+    pub line: usize,
+    pub message: String,
+}
+
+/// A network that was read from a text, sound or not, and the line of each record.
+#[derive(Clone, Debug, PartialEq, Eq)]
+pub struct Parsed {
+    /// The first comment that has a line of its own.
+    pub title: Option<String>,
+    pub network: Network,
+    nodes_line: usize,
+    link_lines: Vec<usize>,
+    tree_lines: Vec<usize>,
+}
+
+/// Reads a text. What it gives fits the fields of a sheet; whether the monitor accepts it is for `sheet::read` to say.
+pub fn parse(file: &[u8]) -> Result<Parsed, Fault> {
+    let text = decode(file)?;
+    let mut records =
+        (1..).zip(text.lines()).map(|(number, line)| Line::new(number, line)).filter(|line| !line.ended());
+    let Some(mut first) = records.next() else {
+        let message = "expected 'nodes' and the node count, found only comments and blank lines".to_string();
+        return Err(Fault { line: text.lines().count().max(1), message });
+    };
+    let mut parsed = Parsed {
+        title: text.lines().find_map(title),
+        network: Network { nodes: read_nodes(&mut first)?, links: Vec::new(), trees: Vec::new() },
+        nodes_line: first.number(),
+        link_lines: Vec::new(),
+        tree_lines: Vec::new(),
+    };
+    for mut record in records {
+        parsed.add(&mut record)?;
+    }
+    Ok(parsed)
+}
+
+/// The file as text, without the mark that some editors put at its start.
+fn decode(file: &[u8]) -> Result<&str, Fault> {
+    match std::str::from_utf8(file) {
+        Ok(text) => Ok(text.strip_prefix('\u{feff}').unwrap_or(text)),
+        Err(error) => {
+            let before = &file[..error.valid_up_to()];
+            let line = 1 + before.iter().filter(|&&byte| byte == b'\n').count();
+            Err(Fault { line, message: "expected text in UTF-8, found a byte that is none".to_string() })
+        }
+    }
+}
+
+/// The comment of a line that holds nothing else.
+fn title(line: &str) -> Option<String> {
+    let comment = line.trim().strip_prefix('#')?.trim_start_matches('#').trim();
+    (!comment.is_empty()).then(|| line::printable(comment))
+}
+
+/// The first record: the node count.
+fn read_nodes(line: &mut Line) -> Result<usize, Fault> {
+    match line.word() {
+        "nodes" => {
+            let nodes = line.expect_number("a node count behind 'nodes'", MOST_IN_TWO_BYTES)?;
+            line.expect_end("the node count")?;
+            Ok(nodes as usize)
+        }
+        "link" | "tree" => line.fault("expected 'nodes' and the node count before the first link and the first tree"),
+        other => unknown_word(line, other),
+    }
+}
+
+fn unknown_word<T>(line: &Line, word: &str) -> Result<T, Fault> {
+    let found = line::shortened(word);
+    line.fault(&format!("expected 'nodes', 'link' or 'tree' at the start of the line, found '{found}'"))
+}
+
+impl Parsed {
+    /// Adds a record behind the node count.
+    fn add(&mut self, line: &mut Line) -> Result<(), Fault> {
+        match line.word() {
+            "link" => self.add_link(line),
+            "tree" => self.add_tree(line),
+            "nodes" => line.fault(&format!("expected one line 'nodes' only, and line {} is one", self.nodes_line)),
+            other => unknown_word(line, other),
+        }
+    }
+
+    fn add_link(&mut self, line: &mut Line) -> Result<(), Fault> {
+        if let Some(tree_line) = self.tree_lines.first() {
+            return line.fault(&format!("expected all links before the first tree, and line {tree_line} is a tree"));
+        }
+        if self.network.links.len() == MOST_LINK_LINES {
+            return line.fault(&format!("expected at most {MOST_LINK_LINES} links, found one more"));
+        }
+        let first = line.expect_number("a node number behind 'link'", MOST_IN_TWO_BYTES)? as usize;
+        line.expect_sign('-', "the first node number")?;
+        let second = line.expect_number("a node number behind the '-'", MOST_IN_TWO_BYTES)? as usize;
+        line.expect_sign(':', "the second node number")?;
+        let weight = line.expect_number("a weight behind the ':'", MOST_IN_FOUR_BYTES)?;
+        line.expect_end("the weight")?;
+        self.network.links.push(Link { first, second, weight });
+        self.link_lines.push(line.number());
+        Ok(())
+    }
+
+    fn add_tree(&mut self, line: &mut Line) -> Result<(), Fault> {
+        if self.network.trees.len() == MOST_TREE_LINES {
+            return line.fault(&format!("expected at most {MOST_TREE_LINES} trees, found one more"));
+        }
+        line.expect_word("share", "'tree'")?;
+        let share = line.expect_number("a share behind 'share'", MOST_IN_FOUR_BYTES)?;
+        line.expect_word("links", "the share")?;
+        let members = self.read_members(line)?;
+        self.network.trees.push(Tree { share, members });
+        self.tree_lines.push(line.number());
+        Ok(())
+    }
+
+    /// The link numbers up to the end of a tree's line, sorted.
+    fn read_members(&self, line: &mut Line) -> Result<Vec<usize>, Fault> {
+        let links = self.network.links.len();
+        let mut held = vec![false; links];
+        while !line.ended() {
+            let member = line.expect_number("a link number", MOST_IN_TWO_BYTES)?;
+            match held.get_mut(member as usize) {
+                Some(held) if !*held => *held = true,
+                Some(_) => return line.fault(&format!("expected each link once, found link {member} twice")),
+                None => {
+                    return line.fault(&match links {
+                        0 => format!("expected the number of a link of this file, found {member}, and it has no link"),
+                        _ => format!("expected the number of a link of this file, 0 to {}, found {member}", links - 1),
+                    })
+                }
+            }
+        }
+        Ok((0..links).filter(|&link| held[link]).collect())
+    }
+
+    /// The line to look at when the monitor refuses the network's sheet.
+    pub fn line_of(&self, refusal: &Refusal) -> usize {
+        let last = self.tree_lines.last().or(self.link_lines.last()).unwrap_or(&self.nodes_line);
+        let line = match (refusal.place, refusal.number) {
+            (Place::Header, 5) => self.link_lines.get(MOST_LINKS).unwrap_or(&self.nodes_line),
+            (Place::Header, 6) => self.tree_lines.get(MOST_TREES).unwrap_or(last),
+            (Place::Header, _) => &self.nodes_line,
+            (Place::Link(link), _) => self.link_lines.get(link).unwrap_or(last),
+            (Place::Tree(tree), _) => self.tree_lines.get(tree).unwrap_or(last),
+            (Place::End, _) => last,
+        };
+        *line
+    }
+}
+
+/// The text of a network, a line for each record: `parse` gives the same network again.
+pub fn write(network: &Network) -> String {
+    let mut text = format!("nodes {}\n", network.nodes);
+    for link in &network.links {
+        let _ = writeln!(text, "link {}-{}:{}", link.first, link.second, link.weight);
+    }
+    for tree in &network.trees {
+        let _ = write!(text, "tree share {} links", tree.share);
+        for member in &tree.members {
+            let _ = write!(text, " {member}");
+        }
+        text.push('\n');
+    }
+    text
+}

@@ -1,0 +1,116 @@
+//! One line of a text, read from left to right.
+
+use super::Fault;
+
+/// How many characters of a line or a word a fault repeats.
+const MOST_REPEATED: usize = 60;
+
+/// A line without its comment, and what of it is not read yet.
+pub struct Line<'a> {
+    number: usize,
+    text: &'a str,
+    unread: &'a str,
+}
+
+impl<'a> Line<'a> {
+    pub fn new(number: usize, line: &'a str) -> Self {
+        let text = line.split('#').next().unwrap_or_default().trim();
+        Line { number, text, unread: text }
+    }
+
+    /// The number of the line in its file, from 1.
+    pub fn number(&self) -> usize {
+        self.number
+    }
+
+    pub fn ended(&self) -> bool {
+        self.unread.is_empty()
+    }
+
+    /// The fault of this line: what it holds, and what was expected.
+    pub fn fault<T>(&self, expected: &str) -> Result<T, Fault> {
+        Err(Fault { line: self.number, message: format!("{}: {expected}", shortened(self.text)) })
+    }
+
+    /// The fault at the first part that is not read.
+    fn fault_here<T>(&self, expected: &str) -> Result<T, Fault> {
+        match self.next_word() {
+            "" => self.fault(&format!("expected {expected}")),
+            found => self.fault(&format!("expected {expected}, found '{}'", shortened(found))),
+        }
+    }
+
+    fn next_word(&self) -> &'a str {
+        self.unread.split_whitespace().next().unwrap_or_default()
+    }
+
+    /// Takes so many bytes, and the spaces behind them.
+    fn take(&mut self, bytes: usize) -> &'a str {
+        let (taken, rest) = self.unread.split_at(bytes);
+        self.unread = rest.trim_start();
+        taken
+    }
+
+    /// Takes everything up to the next space.
+    pub fn word(&mut self) -> &'a str {
+        self.take(self.next_word().len())
+    }
+
+    pub fn expect_word(&mut self, word: &str, behind: &str) -> Result<(), Fault> {
+        if self.next_word() != word {
+            return self.fault_here(&format!("'{word}' behind {behind}"));
+        }
+        self.word();
+        Ok(())
+    }
+
+    pub fn expect_sign(&mut self, sign: char, behind: &str) -> Result<(), Fault> {
+        if !self.unread.starts_with(sign) {
+            return self.fault_here(&format!("a '{sign}' behind {behind}"));
+        }
+        self.take(sign.len_utf8());
+        Ok(())
+    }
+
+    pub fn expect_number(&mut self, expected: &str, most: u64) -> Result<u64, Fault> {
+        let digits = self.unread.bytes().take_while(u8::is_ascii_digit).count();
+        if digits == 0 {
+            return self.fault_here(expected);
+        }
+        match self.unread[..digits].parse() {
+            Ok(number) if number <= most => {
+                self.take(digits);
+                Ok(number)
+            }
+            _ => {
+                let found = shortened(&self.unread[..digits]);
+                self.fault(&format!("expected {expected} that is at most {most}, found '{found}'"))
+            }
+        }
+    }
+
+    pub fn expect_end(&self, behind: &str) -> Result<(), Fault> {
+        if self.ended() {
+            return Ok(());
+        }
+        self.fault_here(&format!("nothing more behind {behind}"))
+    }
+}
+
+/// A part of a text as a fault repeats it: its start, if it is long.
+pub fn shortened(text: &str) -> String {
+    match text.char_indices().nth(MOST_REPEATED) {
+        Some((end, _)) => printable(&text[..end]) + "...",
+        None => printable(text),
+    }
+}
+
+/// The text with a mark in place of each character that would steer a terminal.
+pub fn printable(text: &str) -> String {
+    let shown = |character: char| match character {
+        '\t' => ' ',
+        steering if steering.is_control() => char::REPLACEMENT_CHARACTER,
+        other => other,
+    };
+    text.chars().map(shown).collect()
+}

@@ -1,0 +1,151 @@
+//! The command `network` as a planner runs it: what it prints, and its exit status.
+
+use std::io::Write;
+use std::path::{Path, PathBuf};
+use std::process::{Command, Stdio};
+
+const TRIANGLE: &str = "# A triangle\nnodes 3\nlink 0-1:3\nlink 1-2:2\nlink 0-2:4\ntree share 2 links 0 2\n";
+#[rustfmt::skip]
+const TRIANGLE_SHEET: [u8; 35] = [
+    0x03, 0x00, 0x03, 0x00, 0x01,
+    0x07, 0x00, 0x00, 0x01, 0x00, 0x03, 0x00, 0x00, 0x00,
+    0x07, 0x01, 0x00, 0x02, 0x00, 0x02, 0x00, 0x00, 0x00,
+    0x05, 0x00, 0x00, 0x04, 0x00, 0x00, 0x00,
+    0x02, 0x00, 0x00, 0x00, 0x05,
+];
+
+/// Exit status, standard output and standard error of the command.
+fn network(arguments: &[&str], input: &[u8]) -> (Option<i32>, Vec<u8>, String) {
+    let mut child = Command::new(env!("CARGO_BIN_EXE_network"))
+        .args(arguments)
+        .current_dir(env!("CARGO_TARGET_TMPDIR"))
+        .stdin(Stdio::piped())
+        .stdout(Stdio::piped())
+        .stderr(Stdio::piped())
+        .spawn()
+        .expect("the command starts");
+    // a command that only prints its usage may have ended before it reads
+    let _ = child.stdin.take().expect("its standard input").write_all(input);
+    let output = child.wait_with_output().expect("the command ends");
+    (output.status.code(), output.stdout, String::from_utf8(output.stderr).expect("text"))
+}
+
+/// A program that takes its standard input and prints the given lines, or ends with a status. A shell writes it, so that no
+/// process of this test has it open when it is run.
+fn stand_in(name: &str, commands: &str) -> PathBuf {
+    let path = Path::new(env!("CARGO_TARGET_TMPDIR")).join(name);
+    let write = "printf '#!/bin/sh\\ncat >/dev/null\\n%s\\n' \"$2\" >\"$1\" && chmod +x \"$1\"";
+    let status = Command::new("sh").args(["-c", write, "sh"]).arg(&path).arg(commands).status();
+    assert!(status.is_ok_and(|status| status.success()));
+    path
+}
+
+/// Reports on a text, written to a file of the given name, with a stand-in for the report program.
+fn report(name: &str, text: &str, commands: &str) -> (Option<i32>, String, String) {
+    let folder = Path::new(env!("CARGO_TARGET_TMPDIR"));
+    std::fs::write(folder.join(name), text).expect("a file for the network");
+    let program = stand_in(&format!("{name}.program"), commands);
+    let (status, printed, errors) = network(&["report", &program.to_string_lossy(), name], b"");
+    (status, String::from_utf8(printed).expect("text"), errors)
+}
+
+#[test]
+fn bad_arguments_give_the_usage() {
+    let bad: [&[&str]; 6] =
+        [&[], &["sheets"], &["sheet", "a.net", "b.net"], &["text", "a", "b"], &["report"], &["report", "program"]];
+    for arguments in bad {
+        let (status, printed, errors) = network(arguments, b"");
+        assert_eq!((status, printed.len()), (Some(2), 0), "{arguments:?}");
+        assert!(errors.starts_with("network sheet [FILE] "), "{errors}");
+    }
+}
+
+#[test]
+fn text_becomes_a_sheet_and_text_again() {
+    let sheet = network(&["sheet"], TRIANGLE.as_bytes());
+    assert_eq!(sheet, (Some(0), TRIANGLE_SHEET.to_vec(), String::new()));
+    let text = network(&["text"], &TRIANGLE_SHEET);
+    let without_title = TRIANGLE.replace("# A triangle\n", "");
+    assert_eq!(text, (Some(0), without_title.into_bytes(), String::new()));
+}
+
+#[test]
+fn a_fault_names_file_and_line() {
+    let expected = "standard input:2: link 3-: expected a node number behind the '-'\n";
+    assert_eq!(network(&["sheet"], b"nodes 4\nlink 3-\n"), (Some(1), vec![], expected.to_string()));
+    let (status, printed, errors) = network(&["sheet", "missing.net"], b"");
+    assert_eq!((status, printed.len()), (Some(1), 0));
+    assert!(errors.starts_with("missing.net: "), "{errors}");
+}
+
+#[test]
+fn a_sheet_that_will_be_refused_is_written_with_a_note() {
+    let text = "nodes 3\nlink 0-1:1\nlink 0-1:1\ntree share 1 links 0 1\n";
+    let sheet = vec![3, 0, 2, 0, 1, 7, 0, 0, 1, 0, 1, 0, 0, 0, 0, 1, 0, 0, 0, 3];
+    let note =
+        "standard input:4: the monitor refuses this sheet, number 15: the links of tree 0 do not join every node to \
+                node 0\n";
+    assert_eq!(network(&["sheet"], text.as_bytes()), (Some(0), sheet, note.to_string()));
+}
+
+#[test]
+fn a_refused_sheet_has_no_text() {
+    let refusals: [(&[u8], &str); 4] = [
+        (&TRIANGLE_SHEET[..4], "number 3, at the header: the sheet has fewer than 5 bytes"),
+        (&TRIANGLE_SHEET[..14], "number 7, at link 1: no map byte is left for a link"),
+        (&TRIANGLE_SHEET[..34], "number 12, at tree 0: the sheet ends inside or before a tree record"),
+        (&[&TRIANGLE_SHEET[..], &[0]].concat(), "number 16, at the end: bytes follow the last tree"),
+    ];
+    for (sheet, words) in refusals {
+        let expected = format!("standard input: the sheet is refused, {words}\n");
+        assert_eq!(network(&["text"], sheet), (Some(1), vec![], expected));
+    }
+}
+
+#[test]
+fn a_report_has_title_lines_and_meaning() {
+    let printed = "A triangle (triangle.net)\nanswer 2 5 5 0 0 - 1\nside 1\nLink 0 of tree 0 names the cut: it severs node 1 \
+                   from node 0, and the links that it crosses weigh 5 together. No cut of the whole network weighs less.\n";
+    let program = "echo answer 2 5 5 0 0 - 1; echo side 1";
+    assert_eq!(report("triangle.net", TRIANGLE, program), (Some(0), printed.to_string(), String::new()));
+}
+
+#[test]
+fn a_refusal_is_explained_from_the_programs_number() {
+    let text = "nodes 2\nlink 0-1:1000001\ntree share 1 links 0\n";
+    let named =
+        "refused.net\nrefused 11\nThe sheet is refused for line 2: link 0 weighs 1000001, and the monitor takes at \
+                 most 1000000.\n";
+    assert_eq!(report("refused.net", text, "echo refused 11"), (Some(0), named.to_string(), String::new()));
+    let unnamed = "other.net\nrefused 12\nThe sheet is refused: the sheet ends inside or before a tree record.\n";
+    assert_eq!(report("other.net", text, "echo refused 12"), (Some(0), unnamed.to_string(), String::new()));
+}
+
+#[test]
+fn a_program_that_prints_no_report_is_an_error() {
+    let wrong = [
+        ("layout.net", "echo answer 2", "printed \"answer 2\\n\": these are not the lines of a report\n"),
+        ("weight.net", "echo answer 2 6 6 0 0 - 1; echo side 1", "the links that cross the side have another weight\n"),
+        ("status.net", "echo refused 4; exit 3", "ended with exit status: 3\n"),
+    ];
+    for (name, commands, error) in wrong {
+        let (status, printed, errors) = report(name, TRIANGLE, commands);
+        assert_eq!((status, printed.as_str()), (Some(1), ""), "{name}");
+        assert!(errors.starts_with(name) && errors.ends_with(error), "{errors}");
+    }
+}
+
+#[test]
+fn a_fault_in_one_file_leaves_the_others_their_reports() {
+    let folder = Path::new(env!("CARGO_TARGET_TMPDIR"));
+    std::fs::write(folder.join("faulty.net"), "nodes\n").expect("a file for the network");
+    std::fs::write(folder.join("sound.net"), "nodes 1\n").expect("a file for the network");
+    let program = stand_in("both.program", "echo refused 4");
+    let (status, printed, errors) = network(&["report", &program.to_string_lossy(), "faulty.net", "sound.net"], b"");
+    assert_eq!(status, Some(1));
+    assert_eq!(errors, "faulty.net:1: nodes: expected a node count behind 'nodes'\n");
+    let expected =
+        "\nsound.net\nrefused 4\nThe sheet is refused for line 1: the node count is 1, and the monitor takes 2 to \
+                    256.\n";
+    assert_eq!(String::from_utf8(printed).expect("text"), expected);
+}
