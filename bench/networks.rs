@@ -1,6 +1,10 @@
-//! Sound networks, made at random from a fixed seed, as sheets.
+//! Sound networks with trees of three kinds, made at random from a fixed seed, as sheets with all fields written.
 
-const SEED: u64 = 0x9e37_79b9_7f4a_7c15;
+use reference::network::{Link, Network, Tree};
+use reference::random::Random;
+use reference::sheet::{self, ALL_FIELDS};
+
+const SEED: u64 = 1;
 const LEAST_WEIGHT: usize = 500_000;
 const MOST_WEIGHT: usize = 1_000_000;
 /// 32 shares do not exceed the least weight.
@@ -41,53 +45,32 @@ struct Hanging {
     place: usize,
 }
 
-struct Random(u64);
-
-impl Random {
-    fn below(&mut self, bound: usize) -> usize {
-        self.0 ^= self.0 << 13;
-        self.0 ^= self.0 >> 7;
-        self.0 ^= self.0 << 17;
-        (self.0 >> 16) as usize % bound
-    }
-
-    fn between(&mut self, least: usize, most: usize) -> usize {
-        least + self.below(most - least + 1)
-    }
+pub fn sheet(size: Size, kind: Kind) -> Vec<u8> {
+    let network = network(size, kind, &mut Random::new(SEED));
+    sheet::write_with_maps(&network, &vec![ALL_FIELDS; size.links])
 }
 
-pub fn sheet(size: Size, kind: Kind) -> Vec<u8> {
-    let mut random = Random(SEED);
-    let ends = link_ends(size, kind, &mut random);
-    let mut sheet = Vec::new();
-    put_two(&mut sheet, size.nodes);
-    put_two(&mut sheet, size.links);
-    sheet.push(size.trees as u8);
-    for &(first, second) in &ends {
-        sheet.push(7);
-        put_two(&mut sheet, first);
-        put_two(&mut sheet, second);
-        put_four(&mut sheet, random.between(LEAST_WEIGHT, MOST_WEIGHT));
+fn network(size: Size, kind: Kind, random: &mut Random) -> Network {
+    let mut network = Network { nodes: size.nodes, links: Vec::new(), trees: Vec::new() };
+    for (first, second) in link_ends(size, kind, random) {
+        let weight = random.between(LEAST_WEIGHT, MOST_WEIGHT) as u64;
+        network.links.push(Link { first, second, weight });
     }
     for _ in 0..size.trees {
-        put_four(&mut sheet, random.between(0, MOST_SHARE));
-        sheet.extend(tree_map(size.nodes, &ends, kind, &mut random));
+        let share = random.between(0, MOST_SHARE) as u64;
+        let members = tree_members(&network, kind, random);
+        network.trees.push(Tree { share, members });
     }
-    sheet
+    network
 }
 
 /// The ends of each link: one tree of the kind, then further links from each node in turn, in mixed order.
 fn link_ends(size: Size, kind: Kind, random: &mut Random) -> Vec<(usize, usize)> {
-    let mut ends = Vec::with_capacity(size.links);
-    for node in 1..size.nodes {
-        ends.push((parent(kind, node, random), node));
-    }
+    let mut ends: Vec<(usize, usize)> = (1..size.nodes).map(|node| (parent(kind, node, random), node)).collect();
     for k in ends.len()..size.links {
         ends.push(further_link(size.nodes, k % size.nodes, kind, random));
     }
-    for k in 1..ends.len() {
-        ends.swap(k, random.below(k + 1));
-    }
+    random.shuffle(&mut ends);
     ends
 }
 
@@ -107,13 +90,13 @@ fn further_link(nodes: usize, first: usize, kind: Kind, random: &mut Random) -> 
     (first, (first + random.between(1, farthest)) % nodes)
 }
 
-/// The link map of a tree that grows from node 0: by a link at any node reached, at the last one or at the first.
-fn tree_map(nodes: usize, ends: &[(usize, usize)], kind: Kind, random: &mut Random) -> Vec<u8> {
-    let mut map = vec![0; ends.len().div_ceil(8)];
-    let mut places = vec![None; nodes];
+/// The members of a tree that grows from node 0: by a link at any node reached, at the last one or at the first.
+fn tree_members(network: &Network, kind: Kind, random: &mut Random) -> Vec<usize> {
+    let mut members = Vec::new();
+    let mut places = vec![None; network.nodes];
     places[0] = Some(0);
-    for found in 1..nodes {
-        let mut choice = hanging_links(ends, &places);
+    for found in 1..network.nodes {
+        let mut choice = hanging_links(&network.links, &places);
         let from = choice.iter().map(|hanging| hanging.place);
         let wanted = match kind {
             Kind::Random => None,
@@ -123,36 +106,21 @@ fn tree_map(nodes: usize, ends: &[(usize, usize)], kind: Kind, random: &mut Rand
         choice.retain(|hanging| wanted.is_none_or(|place| hanging.place == place));
         let Hanging { link, node, .. } = choice[random.below(choice.len())];
         places[node] = Some(found);
-        map[link / 8] |= 1 << (link % 8);
+        members.push(link);
     }
-    map
+    members.sort();
+    members
 }
 
 /// The links with exactly one end reached, where each node reached has its place in the tree's order.
-fn hanging_links(ends: &[(usize, usize)], places: &[Option<usize>]) -> Vec<Hanging> {
+fn hanging_links(links: &[Link], places: &[Option<usize>]) -> Vec<Hanging> {
     let mut hanging = Vec::new();
-    for (link, &(first, second)) in ends.iter().enumerate() {
+    for (link, &Link { first, second, .. }) in links.iter().enumerate() {
         match (places[first], places[second]) {
-            (Some(place), None) => hanging.push(Hanging {
-                link,
-                node: second,
-                place,
-            }),
-            (None, Some(place)) => hanging.push(Hanging {
-                link,
-                node: first,
-                place,
-            }),
+            (Some(place), None) => hanging.push(Hanging { link, node: second, place }),
+            (None, Some(place)) => hanging.push(Hanging { link, node: first, place }),
             _ => {}
         }
     }
     hanging
-}
-
-fn put_two(sheet: &mut Vec<u8>, number: usize) {
-    sheet.extend((number as u16).to_le_bytes());
-}
-
-fn put_four(sheet: &mut Vec<u8>, number: usize) {
-    sheet.extend((number as u32).to_le_bytes());
 }

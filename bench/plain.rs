@@ -1,6 +1,7 @@
 //! The entry's method, plainly.
 
-use crate::{Outcome, REPORT_LENGTH, SIDE_LENGTH};
+use crate::Outcome;
+use reference::report::{REPORT_BYTES, SIDE_BYTES};
 
 const NO_SECOND: u16 = 65535;
 
@@ -47,11 +48,7 @@ struct Found {
 }
 
 pub fn report(sheet: &[u8]) -> Outcome {
-    let mut outcome = Outcome {
-        number: 0,
-        side: [0; SIDE_LENGTH],
-        report: [0; REPORT_LENGTH],
-    };
+    let mut outcome = Outcome { number: 0, side: [0; SIDE_BYTES], report: [0; REPORT_BYTES] };
     match read_sheet(sheet) {
         Ok(sheet) => write_answer(&sheet, &mut outcome.side, &mut outcome.report),
         Err(refusal) => outcome.number = refusal,
@@ -76,11 +73,7 @@ fn read_sheet(sheet: &[u8]) -> Result<Sheet<'_>, u32> {
     if !rest.is_empty() {
         return Err(16);
     }
-    Ok(Sheet {
-        nodes: counts.nodes,
-        links,
-        trees,
-    })
+    Ok(Sheet { nodes: counts.nodes, links, trees })
 }
 
 fn read_counts(sheet: &[u8]) -> Result<Counts, u32> {
@@ -99,11 +92,7 @@ fn read_counts(sheet: &[u8]) -> Result<Counts, u32> {
     if trees == 0 || trees > 32 {
         return Err(6);
     }
-    Ok(Counts {
-        nodes,
-        links,
-        trees,
-    })
+    Ok(Counts { nodes, links, trees })
 }
 
 fn read_links(rest: &mut &[u8], counts: &Counts) -> Result<Vec<Link>, u32> {
@@ -138,19 +127,10 @@ fn read_link(rest: &mut &[u8], nodes: usize, before: Option<&Link>) -> Result<Li
     if weight > 1_000_000 {
         return Err(11);
     }
-    Ok(Link {
-        first: first as u8,
-        second: second as u8,
-        weight,
-    })
+    Ok(Link { first: first as u8, second: second as u8, weight })
 }
 
-fn read_trees<'a>(
-    rest: &mut &'a [u8],
-    nodes: usize,
-    trees: usize,
-    links: &[Link],
-) -> Result<Vec<Record<'a>>, u32> {
+fn read_trees<'a>(rest: &mut &'a [u8], nodes: usize, trees: usize, links: &[Link]) -> Result<Vec<Record<'a>>, u32> {
     (0..trees).map(|_| read_tree(rest, nodes, links)).collect()
 }
 
@@ -165,10 +145,7 @@ fn read_tree<'a>(rest: &mut &'a [u8], nodes: usize, links: &[Link]) -> Result<Re
         return Err(14);
     }
     grow_tree(map, nodes, links).ok_or(15u32)?;
-    Ok(Record {
-        share: four(share),
-        map,
-    })
+    Ok(Record { share: four(share), map })
 }
 
 fn take<'a>(rest: &mut &'a [u8], count: usize) -> Option<&'a [u8]> {
@@ -193,15 +170,9 @@ fn bit_set(map: &[u8], k: usize) -> bool {
 
 /// The tree grown from node 0, or nothing if its members do not join all nodes.
 fn grow_tree(map: &[u8], nodes: usize, links: &[Link]) -> Option<Tree> {
-    let members = (0..links.len())
-        .filter(|&k| bit_set(map, k))
-        .map(|k| k as u16);
-    let mut tree = Tree {
-        members: members.collect(),
-        order: vec![0],
-        parents: vec![0; nodes],
-        uplinks: vec![0; nodes],
-    };
+    let members = (0..links.len()).filter(|&k| bit_set(map, k)).map(|k| k as u16);
+    let mut tree =
+        Tree { members: members.collect(), order: vec![0], parents: vec![0; nodes], uplinks: vec![0; nodes] };
     let mut reached = vec![false; nodes];
     reached[0] = true;
     while tree.order.len() < nodes {
@@ -232,24 +203,14 @@ fn mark_below(marks: &mut [u8], tree: &Tree, link: u16) {
     marks.fill(0);
     for &node in &tree.order[1..] {
         let node = node as usize;
-        marks[node] = if tree.uplinks[node] == link {
-            1
-        } else {
-            marks[tree.parents[node] as usize]
-        };
+        marks[node] = if tree.uplinks[node] == link { 1 } else { marks[tree.parents[node] as usize] };
     }
 }
 
 // Search
 
 fn search_trees(sheet: &Sheet) -> Found {
-    let mut best = Found {
-        tree: 0,
-        first: 0,
-        second: 0,
-        weight: u64::MAX,
-        side: vec![0; sheet.nodes],
-    };
+    let mut best = Found { tree: 0, first: 0, second: 0, weight: u64::MAX, side: vec![0; sheet.nodes] };
     for (number, record) in sheet.trees.iter().enumerate() {
         if let Some(tree) = grow_tree(record.map, sheet.nodes, &sheet.links) {
             search_tree(&tree, number as u8, sheet, &mut best);
@@ -294,10 +255,7 @@ fn differ(side: &mut [u8], other: &[u8]) {
 
 fn weigh(side: &[u8], links: &[Link]) -> u64 {
     let crossed = |l: &Link| side[l.first as usize] ^ side[l.second as usize];
-    links
-        .iter()
-        .map(|l| crossed(l) as u64 * l.weight as u64)
-        .sum()
+    links.iter().map(|l| crossed(l) as u64 * l.weight as u64).sum()
 }
 
 fn keep_lighter(best: &mut Found, tree: u8, first: u16, second: u16, weight: u64, side: &[u8]) {
@@ -314,12 +272,7 @@ fn keep_lighter(best: &mut Found, tree: u8, first: u16, second: u16, weight: u64
 
 fn floor(sheet: &Sheet, weight: u64) -> u64 {
     let loads = loads(sheet);
-    if sheet
-        .links
-        .iter()
-        .zip(&loads)
-        .any(|(l, &load)| load > l.weight as u64)
-    {
+    if sheet.links.iter().zip(&loads).any(|(l, &load)| load > l.weight as u64) {
         return 0;
     }
     let shares: u64 = sheet.trees.iter().map(|tree| tree.share as u64).sum();
@@ -342,21 +295,13 @@ fn loads(sheet: &Sheet) -> Vec<u64> {
 
 fn write_side(area: &mut [u8], side: &[u8]) {
     for (byte, marks) in area.iter_mut().zip(side.chunks(8)) {
-        *byte = marks
-            .iter()
-            .enumerate()
-            .map(|(bit, mark)| mark << bit)
-            .sum();
+        *byte = marks.iter().enumerate().map(|(bit, mark)| mark << bit).sum();
     }
 }
 
 fn write_report(area: &mut [u8], found: &Found, floor: u64) {
     let count: u16 = found.side.iter().map(|&mark| mark as u16).sum();
-    let second = if found.first == found.second {
-        NO_SECOND
-    } else {
-        found.second
-    };
+    let second = if found.first == found.second { NO_SECOND } else { found.second };
     area[0] = if floor == found.weight { 2 } else { 1 };
     area[1] = found.tree;
     area[2..4].copy_from_slice(&count.to_le_bytes());

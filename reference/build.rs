@@ -2,7 +2,7 @@
 
 use std::path::Path;
 
-const CALLERS: [&str; 1] = ["compare"];
+const CALLERS: [&str; 2] = ["compare", "bench"];
 
 fn main() {
     let archive = Path::new(env!("CARGO_MANIFEST_DIR")).join("../target/staticlib/libmonitor.a");
