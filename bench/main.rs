@@ -6,28 +6,19 @@
 mod networks;
 mod plain;
 
-use networks::{Kind, Size};
+use networks::Kind;
+use reference::entry::wcut_report;
+use reference::generate::Size;
 use reference::report;
 use reference::report::{REPORT_BYTES, SIDE_BYTES};
 use std::arch::asm;
 use std::process::exit;
 use std::time::{Duration, Instant};
 
-extern "C" {
-    fn wcut_report(
-        sheet: *const u8,
-        sheet_length: usize,
-        side: *mut u8,
-        side_length: usize,
-        report: *mut u8,
-        report_length: usize,
-    ) -> u32;
-}
-
 /// The entry may take so many times as long as plain Rust.
 const MOST_RATIO: f64 = 2.0;
 
-const LONGEST: Size = Size { nodes: 256, links: 2048, trees: 32 };
+const LONGEST: Size = Size::new(256, 2048, 32);
 
 /// What a call leaves: the number that it returned and both areas.
 #[derive(Debug, PartialEq)]
@@ -39,6 +30,7 @@ struct Outcome {
 
 fn entry(sheet: &[u8]) -> Outcome {
     let (mut side, mut report) = ([0; SIDE_BYTES], [0; REPORT_BYTES]);
+    // SAFETY: each pointer is that of a slice with the length behind it, and the three slices do not overlap.
     let number = unsafe {
         wcut_report(sheet.as_ptr(), sheet.len(), side.as_mut_ptr(), side.len(), report.as_mut_ptr(), report.len())
     };
@@ -100,13 +92,12 @@ fn print_row(size: Size, kind: Kind, repetitions: usize) -> f64 {
 
 fn print_table() {
     println!("nodes links trees  kind     entry ms   plain ms  refer. ms   entry/plain   entry/reference");
-    let size = |nodes, links, trees| Size { nodes, links, trees };
     let all = &[Kind::Random, Kind::Path, Kind::Star][..];
     let rows = [
-        (size(10, 20, 2), all, 1000),
-        (size(40, 80, 4), all, 100),
-        (size(128, 512, 8), all, 5),
-        (size(256, 2048, 1), all, 5),
+        (Size::new(10, 20, 2), all, 1000),
+        (Size::new(40, 80, 4), all, 100),
+        (Size::new(128, 512, 8), all, 5),
+        (Size::new(256, 2048, 1), all, 5),
         (LONGEST, &all[..2], 2),
     ];
     let mut largest: f64 = 0.0;
@@ -127,6 +118,8 @@ fn stack_depth(sheet: &[u8]) -> usize {
     let mut stack = vec![PAINT; 8192];
     let (mut side, mut report) = ([0u8; SIDE_BYTES], [0u8; REPORT_BYTES]);
     let number: u32;
+    // SAFETY: as in `entry`. The call has the C convention's registers, and a stack of its own whose top is aligned to 16 bytes and
+    // which is larger than the entry needs; r12 holds the stack before, since the convention keeps it.
     unsafe {
         asm!(
             "xchg rsp, r12",

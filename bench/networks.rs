@@ -1,5 +1,6 @@
 //! Sound networks with trees of three kinds, made at random from a fixed seed, as sheets with all fields written.
 
+use reference::generate::Size;
 use reference::network::{Link, Network, Tree};
 use reference::random::Random;
 use reference::sheet::{self, ALL_FIELDS};
@@ -28,14 +29,6 @@ impl Kind {
             Kind::Star => "star",
         }
     }
-}
-
-/// The counts of a network.
-#[derive(Clone, Copy)]
-pub struct Size {
-    pub nodes: usize,
-    pub links: usize,
-    pub trees: usize,
 }
 
 /// A link with one end reached: its other end, and the place of the end reached.

@@ -1,14 +1,13 @@
 //! Links the monitor's archive into the binaries that call its entry, and into no other.
 
-use std::path::Path;
-
+/// From the package's folder, in which cargo runs the build.
+const ARCHIVE: &str = "../target/staticlib/libmonitor.a";
 const CALLERS: [&str; 2] = ["compare", "bench"];
 
 fn main() {
-    let archive = Path::new(env!("CARGO_MANIFEST_DIR")).join("../target/staticlib/libmonitor.a");
     println!("cargo:rerun-if-changed=build.rs");
-    println!("cargo:rerun-if-changed={}", archive.display());
+    println!("cargo:rerun-if-changed={ARCHIVE}");
     for caller in CALLERS {
-        println!("cargo:rustc-link-arg-bin={caller}={}", archive.display());
+        println!("cargo:rustc-link-arg-bin={caller}={ARCHIVE}");
     }
 }

@@ -3,6 +3,8 @@
 
 pub mod cuts;
 pub mod documented;
+#[cfg(feature = "archive")]
+pub mod entry;
 pub mod every_side;
 pub mod explain;
 pub mod faults;

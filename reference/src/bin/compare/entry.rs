@@ -1,17 +1,7 @@
 //! Calls of the C entry. The sheet and both areas are lent between canaries.
 
+use reference::entry::wcut_report;
 use reference::random::Random;
-
-extern "C" {
-    fn wcut_report(
-        sheet: *const u8,
-        sheet_length: usize,
-        side: *mut u8,
-        side_length: usize,
-        report: *mut u8,
-        report_length: usize,
-    ) -> u32;
-}
 
 const CANARIES_BEFORE: usize = 16;
 const CANARIES_BEHIND: usize = 32;

@@ -1,0 +1,13 @@
+//! The C entry of the monitor's archive, which is linked into the binaries that are built with the feature `archive`.
+
+extern "C" {
+    /// As `include/wcut.h` declares it: each pointer has as many bytes as the length behind it says, and no two overlap.
+    pub fn wcut_report(
+        sheet: *const u8,
+        sheet_length: usize,
+        side: *mut u8,
+        side_length: usize,
+        report: *mut u8,
+        report_length: usize,
+    ) -> u32;
+}
