@@ -72,21 +72,26 @@ fn weigh(links: &[Link], inside: &[bool]) -> u64 {
     links.iter().map(|link| crossing(link) * link.weight).sum()
 }
 
+/// The links of each candidate of a tree: every member alone, and with every later one.
+fn singles_and_pairs(members: &[usize]) -> impl Iterator<Item = (usize, Option<usize>)> + '_ {
+    members.iter().enumerate().flat_map(|(place, &first)| {
+        let later = members[place + 1..].iter().copied().map(Some);
+        std::iter::once(None).chain(later).map(move |second| (first, second))
+    })
+}
+
 /// The first candidate in document 01's order, and its side. The network is sound: it has a tree, and each tree joins all nodes.
 fn lightest(network: &Network) -> (Candidate, Vec<usize>) {
     let mut found: Option<(Candidate, Vec<bool>)> = None;
     let mut inside = vec![false; network.nodes];
     for (number, tree) in network.trees.iter().enumerate() {
         let steps = flood(network, tree);
-        for (place, &first) in tree.members.iter().enumerate() {
-            let later = tree.members[place + 1..].iter().copied().map(Some);
-            for second in std::iter::once(None).chain(later) {
-                mark_inside(&steps, first, second, &mut inside);
-                let weight = weigh(&network.links, &inside);
-                let candidate = Candidate { weight, tree: number, first, second };
-                if found.as_ref().is_none_or(|(best, _)| candidate < *best) {
-                    found = Some((candidate, inside.clone()));
-                }
+        for (first, second) in singles_and_pairs(&tree.members) {
+            mark_inside(&steps, first, second, &mut inside);
+            let weight = weigh(&network.links, &inside);
+            let candidate = Candidate { weight, tree: number, first, second };
+            if found.as_ref().is_none_or(|(best, _)| candidate < *best) {
+                found = Some((candidate, inside.clone()));
             }
         }
     }

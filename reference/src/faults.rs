@@ -3,8 +3,10 @@
 
 use crate::documented::network;
 use crate::every_side::path;
+use crate::generate::{self, Feature, Size};
 use crate::network::{Network, Tree};
-use crate::sheet::{self, Place, Refusal};
+use crate::random::Random;
+use crate::sheet::{self, Place, Refusal, MOST_TREES};
 
 /// A sound sheet and where its records start.
 pub struct Base {
@@ -30,13 +32,20 @@ impl Base {
         Base { network, sheet, maps, link_starts, tree_starts }
     }
 
+    /// The sheet of a random network of that size with all fields written.
+    pub fn with_all_fields(random: &mut Random, size: Size) -> Base {
+        let network = generate::network(random, size, Feature::Any);
+        Base::new(network, vec![sheet::ALL_FIELDS; size.links])
+    }
+
     /// Where the records start, the end of the sheet included.
     pub fn record_starts(&self) -> Vec<usize> {
         [&self.link_starts[..], &self.tree_starts[..], &[self.sheet.len()]].concat()
     }
 
-    fn map_start(&self, tree: usize) -> usize {
-        self.tree_starts[tree] + sheet::SHARE_BYTES
+    /// Turns over a bit of a tree's link map.
+    fn flip(&self, tree: usize, bit: usize) -> Edit {
+        Edit::Flip(self.tree_starts[tree] + sheet::SHARE_BYTES + bit / 8, 1 << (bit % 8))
     }
 }
 
@@ -151,18 +160,40 @@ fn edits_clash(one: &Edit, other: &Edit) -> bool {
 pub fn singles(base: &Base) -> Vec<Fault> {
     let mut faults = header_faults(base);
     for link in 0..base.network.links.len() {
-        faults.extend(record_faults(base, link));
-        faults.extend(end_faults(base, link));
-        faults.extend(weight_faults(base, link));
+        faults.extend(link_cuts(base, link));
+        faults.extend(link_faults(base, link).concat());
     }
     for tree in 0..base.network.trees.len() {
-        faults.extend(map_faults(base, tree));
-        faults.extend(swap_faults(base, tree));
+        faults.extend(tree_cuts(base, tree));
+        faults.extend(tree_faults(base, tree).concat());
     }
     for length in [1, 2, 5, 300] {
         faults.push(fault(Place::End, 16, Edit::Append(vec![7; length])));
     }
     faults
+}
+
+/// A size with as many stray bits as a link map can have.
+pub const LARGE_SIZE: Size = Size::new(8, 2041, MOST_TREES);
+
+/// All faults of link 0, one of each kind in every other link, every stray bit and one of each other kind in every tree. Only
+/// link 0 has cuts among them. The base has all fields written, and each of its trees has faults of each kind.
+pub fn of_every_record(random: &mut Random, base: &Base) -> Vec<Fault> {
+    let mut faults = link_cuts(base, 0);
+    faults.extend(link_faults(base, 0).concat());
+    for link in 1..base.network.links.len() {
+        faults.extend(one_of_each(random, &link_faults(base, link)));
+    }
+    for tree in 0..base.network.trees.len() {
+        let [stray_bits, other_counts, swaps] = tree_faults(base, tree);
+        faults.extend(stray_bits);
+        faults.extend(one_of_each(random, &[other_counts, swaps]));
+    }
+    faults
+}
+
+fn one_of_each(random: &mut Random, kinds: &[Vec<Fault>]) -> Vec<Fault> {
+    kinds.iter().map(|kind| kind[random.below(kind.len())].clone()).collect()
 }
 
 fn header_faults(base: &Base) -> Vec<Fault> {
@@ -179,24 +210,37 @@ fn header_faults(base: &Base) -> Vec<Fault> {
     faults
 }
 
-/// The faults of a link's map byte, and the sheet cut before and inside the record.
-fn record_faults(base: &Base, link: usize) -> Vec<Fault> {
-    const WRONG_MAPS: [u8; 9] = [8, 9, 15, 16, 32, 64, 128, 135, 255];
-    let place = Place::Link(link);
+/// The sheet cut before and inside a link record.
+fn link_cuts(base: &Base, link: usize) -> Vec<Fault> {
     let start = base.link_starts[link];
     let end = start + 1 + sheet::field_bytes(base.maps[link]);
-    let mut faults = vec![fault(place, 7, Edit::Cut(start))];
-    faults.extend(WRONG_MAPS.map(|map| fault(place, 8, Edit::Set(start, vec![map]))));
-    if link == 0 {
-        faults.extend((0..sheet::ALL_FIELDS).map(|map| fault(place, 8, Edit::Set(start, vec![map]))));
-    }
-    faults.extend((start + 1..end).map(|end| fault(place, 9, Edit::Cut(end))));
-    faults
+    let cut = |at: usize| fault(Place::Link(link), if at == start { 7 } else { 9 }, Edit::Cut(at));
+    (start..end).map(cut).collect()
 }
 
-/// Ends that are too large, and ends that equal the other one, which stands in the record or is the one of the link before.
-fn end_faults(base: &Base, link: usize) -> Vec<Fault> {
+/// The faults of a link record by kind: the map byte, ends that are too large, equal ends, the weight.
+fn link_faults(base: &Base, link: usize) -> [Vec<Fault>; 4] {
     let nodes = base.network.nodes;
+    [
+        map_byte_faults(base, link),
+        end_faults(base, link, |end, _| vec![nodes, nodes + 1, 256 + end, 65_535]),
+        end_faults(base, link, |_, other| vec![other]),
+        weight_faults(base, link),
+    ]
+}
+
+fn map_byte_faults(base: &Base, link: usize) -> Vec<Fault> {
+    let mut wrong = vec![8, 9, 15, 16, 32, 64, 128, 135, 255];
+    if link == 0 {
+        wrong.extend(0..sheet::ALL_FIELDS);
+    }
+    let set = |map| fault(Place::Link(link), 8, Edit::Set(base.link_starts[link], vec![map]));
+    wrong.into_iter().map(set).collect()
+}
+
+/// Each end that stands in the record set to wrong numbers, which follow from it and from the other end. The other end stands in
+/// the record too, or is the one of the link before.
+fn end_faults(base: &Base, link: usize, wrong: impl Fn(usize, usize) -> Vec<usize>) -> Vec<Fault> {
     let ends = [base.network.links[link].first, base.network.links[link].second];
     let map = base.maps[link];
     let mut faults = Vec::new();
@@ -205,7 +249,7 @@ fn end_faults(base: &Base, link: usize) -> Vec<Fault> {
             continue;
         }
         let at = base.link_starts[link] + 1 + sheet::field_bytes(map & (bit - 1));
-        for wrong in [nodes, nodes + 1, 256 + ends[end], 65_535, ends[1 - end]] {
+        for wrong in wrong(ends[end], ends[1 - end]) {
             let bytes = (wrong as u16).to_le_bytes().to_vec();
             faults.push(fault(Place::Link(link), 10, Edit::Set(at, bytes)));
         }
@@ -229,31 +273,33 @@ fn weight_faults(base: &Base, link: usize) -> Vec<Fault> {
     too_heavy.map(|weight| fault(Place::Link(link), 11, set(weight))).to_vec()
 }
 
-/// The sheet cut at each byte of a tree record, each stray bit, each member taken out, each other link put in.
-fn map_faults(base: &Base, tree: usize) -> Vec<Fault> {
-    let place = Place::Tree(tree);
-    let links = base.network.links.len();
+/// The sheet cut before and inside a tree record.
+fn tree_cuts(base: &Base, tree: usize) -> Vec<Fault> {
     let start = base.tree_starts[tree];
-    let end = start + sheet::tree_bytes(links);
-    let flip = |bit: usize| Edit::Flip(base.map_start(tree) + bit / 8, 1 << (bit % 8));
-    let mut faults: Vec<Fault> = (start..end).map(|end| fault(place, 12, Edit::Cut(end))).collect();
-    faults.extend((links..sheet::map_bytes(links) * 8).map(|bit| fault(place, 13, flip(bit))));
-    faults.extend((0..links).map(|link| fault(place, 14, flip(link))));
-    faults
+    let end = start + sheet::tree_bytes(base.network.links.len());
+    (start..end).map(|at| fault(Place::Tree(tree), 12, Edit::Cut(at))).collect()
+}
+
+/// The faults of a link map by kind: a stray bit, a member taken out or another link put in, both.
+fn tree_faults(base: &Base, tree: usize) -> [Vec<Fault>; 3] {
+    let links = base.network.links.len();
+    let flip = |number, bit| fault(Place::Tree(tree), number, base.flip(tree, bit));
+    let stray_bits = (links..sheet::map_bytes(links) * 8).map(|bit| flip(13, bit));
+    let other_counts = (0..links).map(|bit| flip(14, bit));
+    [stray_bits.collect(), other_counts.collect(), swap_faults(base, tree)]
 }
 
 /// A member taken out and another link put in that closes a cycle: its ends are joined without the member.
 fn swap_faults(base: &Base, tree: usize) -> Vec<Fault> {
     let network = &base.network;
     let listed: &Tree = &network.trees[tree];
-    let flip = |bit: usize| Edit::Flip(base.map_start(tree) + bit / 8, 1 << (bit % 8));
     let mut faults = Vec::new();
     for link in (0..network.links.len()).filter(|link| !listed.members.contains(link)) {
         let ends = network.links[link];
         let joined_by = path(network, listed, ends.first, ends.second).unwrap_or_default();
         for &member in listed.members.iter().filter(|member| !joined_by.contains(member)) {
             let refusal = Refusal { place: Place::Tree(tree), number: 15 };
-            faults.push(Fault { edits: vec![flip(member), flip(link)], refusal });
+            faults.push(Fault { edits: vec![base.flip(tree, member), base.flip(tree, link)], refusal });
         }
     }
     faults
@@ -302,6 +348,35 @@ mod tests {
             }
         }
         assert_eq!(numbers, (3..=16).collect());
+    }
+
+    #[test]
+    fn every_record_of_a_large_sheet_has_a_fault_of_each_kind() {
+        let mut random = Random::new(1);
+        let base = Base::with_all_fields(&mut random, LARGE_SIZE);
+        assert_eq!(sheet::read(&base.sheet), Ok(base.network.clone()));
+        let mut seen = BTreeSet::new();
+        for fault in of_every_record(&mut random, &base) {
+            let Refusal { place, number } = fault.refusal;
+            let sheet = damaged(&base, &[&fault]);
+            assert_eq!(sheet::read(&sheet), Err(fault.refusal), "{fault:?}");
+            let equal_ends = match place {
+                Place::Link(link) if number == 10 => {
+                    let ends = &sheet[base.link_starts[link] + 1..][..4];
+                    ends[..2] == ends[2..]
+                }
+                _ => false,
+            };
+            seen.insert((place, number, equal_ends));
+        }
+        let kinds = [(8, false), (10, false), (10, true), (11, false)];
+        for (link, (number, equal_ends)) in (0..2041).flat_map(|link| kinds.map(|kind| (link, kind))) {
+            assert!(seen.contains(&(Place::Link(link), number, equal_ends)), "{number} at link {link}");
+        }
+        for (tree, number) in (0..32).flat_map(|tree| [13, 14, 15].map(|number| (tree, number))) {
+            assert!(seen.contains(&(Place::Tree(tree), number, false)), "{number} at tree {tree}");
+        }
+        assert!([7, 9].iter().all(|&number| seen.contains(&(Place::Link(0), number, false))));
     }
 
     #[test]

@@ -1,7 +1,7 @@
 //! Sound random networks of a given size, each with a feature that makes its answer hard to reckon.
 
 use crate::cuts;
-use crate::network::{Link, Network, Tree};
+use crate::network::{joining, Link, Network, Tree};
 use crate::random::Random;
 use crate::sheet::{self, MOST_LINKS, MOST_TREES, MOST_WEIGHT};
 
@@ -79,7 +79,7 @@ impl Feature {
 }
 
 /// A size that a network of the feature can have, with nodes between the limits. Often few links and trees, sometimes many.
-pub fn size(random: &mut Random, least_nodes: usize, most_nodes: usize, feature: Feature) -> Size {
+pub fn random_size(random: &mut Random, least_nodes: usize, most_nodes: usize, feature: Feature) -> Size {
     let least = match feature {
         Feature::LaterTree => LATER_TREE_SIZE,
         _ => Size::new(2, 1, 1),
@@ -104,11 +104,11 @@ pub fn network(random: &mut Random, size: Size, feature: Feature) -> Network {
         Feature::LaterTree => with_light_side(random, size),
         _ => {
             let mut network = joined(random, size, feature);
-            weigh(random, &mut network, feature);
+            set_weights(random, &mut network, feature);
             network
         }
     };
-    share(random, &mut network, feature);
+    set_shares(random, &mut network, feature);
     match feature {
         Feature::LoadAtWeight => fit_weights(random, &mut network),
         Feature::LoadAboveWeight => {
@@ -121,14 +121,14 @@ pub fn network(random: &mut Random, size: Size, feature: Feature) -> Network {
     network
 }
 
-/// The sheet of a network with some fields written though they equal those of the link before.
-pub fn longer_sheet(random: &mut Random, network: &Network) -> Vec<u8> {
-    let mut maps = sheet::shortest_maps(&network.links);
+/// Map bytes with some fields, or all, written though they equal those of the link before.
+pub fn longer_maps(random: &mut Random, links: &[Link]) -> Vec<u8> {
+    let mut maps = sheet::shortest_maps(links);
     let all = random.once_in(4);
     for map in &mut maps {
         *map |= if all { sheet::ALL_FIELDS } else { random.byte() & sheet::ALL_FIELDS };
     }
-    sheet::write_with_maps(network, &maps)
+    maps
 }
 
 /// The ends of links that join all nodes as a tree: random, a path, a star, or a caterpillar.
@@ -227,23 +227,14 @@ fn members(random: &mut Random, network: &Network, base: &[usize], feature: Feat
     spanning_members(network, &order)
 }
 
-/// The links that join two components when they are added in that order; their numbers rising.
+/// The members of the tree that grows when the links are added in that order.
 fn spanning_members(network: &Network, order: &[usize]) -> Vec<usize> {
-    let mut component: Vec<usize> = (0..network.nodes).collect();
-    let mut members = Vec::new();
-    for &link in order {
-        let kept = component[network.links[link].first];
-        let merged = component[network.links[link].second];
-        if kept != merged {
-            component.iter_mut().filter(|entry| **entry == merged).for_each(|entry| *entry = kept);
-            members.push(link);
-        }
-    }
+    let mut members = joining(network.nodes, &network.links, order);
     members.sort_unstable();
     members
 }
 
-fn weigh(random: &mut Random, network: &mut Network, feature: Feature) {
+fn set_weights(random: &mut Random, network: &mut Network, feature: Feature) {
     let (least, most) = match feature {
         Feature::Any | Feature::WideSums => (0, random.pick(&[10, 1000, MOST_WEIGHT])),
         Feature::Ties | Feature::EqualTrees => random.pick(&[(1, 1), (1, 2), (0, 2), (5, 7)]),
@@ -259,7 +250,7 @@ fn weigh(random: &mut Random, network: &mut Network, feature: Feature) {
     }
 }
 
-fn share(random: &mut Random, network: &mut Network, feature: Feature) {
+fn set_shares(random: &mut Random, network: &mut Network, feature: Feature) {
     let bits = random.between(0, 32);
     let most = random.pick(&[1, 2, 30]);
     for tree in &mut network.trees {
@@ -385,11 +376,11 @@ fn with_light_side(random: &mut Random, size: Size) -> Network {
 #[cfg(test)]
 mod tests {
     use super::*;
-    use crate::every_side;
+    use crate::{every_side, text};
     use std::collections::BTreeSet;
 
     fn small(random: &mut Random, feature: Feature) -> Network {
-        let size = size(random, 2, every_side::MOST_NODES, feature);
+        let size = random_size(random, 2, every_side::MOST_NODES, feature);
         network(random, size, feature)
     }
 
@@ -400,7 +391,10 @@ mod tests {
             for _ in 0..40 {
                 let network = small(&mut random, feature);
                 assert_eq!(sheet::read(&sheet::write(&network)), Ok(network.clone()));
-                assert_eq!(sheet::read(&longer_sheet(&mut random, &network)), Ok(network.clone()));
+                let longer = sheet::write_with_maps(&network, &longer_maps(&mut random, &network.links));
+                assert_eq!(sheet::read(&longer), Ok(network.clone()));
+                let parsed = text::parse(text::write(&network).as_bytes());
+                assert_eq!(parsed.map(|parsed| parsed.network), Ok(network.clone()));
                 let answer = cuts::answer(&network);
                 assert_eq!(answer, every_side::answer(&network));
                 assert_eq!(every_side::check_demand(&network, &answer), Ok(()));

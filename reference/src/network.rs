@@ -23,3 +23,18 @@ pub struct Network {
     pub links: Vec<Link>,
     pub trees: Vec<Tree>,
 }
+
+/// Those of the given links that join two components, when they are added to the nodes in the given order.
+pub fn joining(nodes: usize, links: &[Link], order: &[usize]) -> Vec<usize> {
+    let mut component: Vec<usize> = (0..nodes).collect();
+    let mut joining = Vec::new();
+    for &link in order {
+        let kept = component[links[link].first];
+        let merged = component[links[link].second];
+        if kept != merged {
+            component.iter_mut().filter(|entry| **entry == merged).for_each(|entry| *entry = kept);
+            joining.push(link);
+        }
+    }
+    joining
+}

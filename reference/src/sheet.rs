@@ -1,6 +1,6 @@
 //! The link sheet: from bytes to a network or a refusal, and from a network to its shortest sheet.
 
-use crate::network::{Link, Network, Tree};
+use crate::network::{joining, Link, Network, Tree};
 
 pub const HEADER_BYTES: usize = 5;
 pub const LEAST_NODES: usize = 2;
@@ -170,17 +170,9 @@ fn read_tree(unread: &mut Unread, nodes: usize, links: &[Link], at: usize) -> Re
     Ok(Tree { share: number(share), members })
 }
 
-/// Whether the members join every node to node 0: whether merging the components of each member's ends leaves one.
-pub fn join_all(nodes: usize, links: &[Link], members: &[usize]) -> bool {
-    let mut component: Vec<usize> = (0..nodes).collect();
-    for &member in members {
-        let kept = component[links[member].first];
-        let merged = component[links[member].second];
-        for entry in component.iter_mut().filter(|entry| **entry == merged) {
-            *entry = kept;
-        }
-    }
-    component.iter().all(|&entry| entry == component[0])
+/// Whether the members join every node to node 0: whether two components are joined so often that one is left.
+fn join_all(nodes: usize, links: &[Link], members: &[usize]) -> bool {
+    joining(nodes, links, members).len() == nodes - 1
 }
 
 /// The shortest sheet of a network: a field equal to the link before it is left out, and link 0 has all. Any network whose

@@ -34,7 +34,8 @@ pub fn long_inputs(judge: &mut Judge, random: &mut Random) -> Judged {
     Ok(())
 }
 
-/// What the long inputs start with: accepted sheets, sheets refused by each number but 3, and nothing.
+/// What the long inputs start with: nothing, accepted sheets, sheets with a fault that no later byte alters, and sheets with
+/// one byte changed.
 fn starts(random: &mut Random, longest: &Base) -> Vec<Vec<u8>> {
     let mut starts = vec![Vec::new(), CASE_A.to_vec(), longest.sheet.clone()];
     let small = faults::bases().remove(4);

@@ -8,7 +8,7 @@ use reference::random::Random;
 use reference::report::{self, Outcome, REPORT_BYTES, SIDE_BYTES};
 
 use crate::entry::{self, Lent};
-use crate::program;
+use crate::program::{self, Run};
 
 const LONGEST_AREA: usize = 40;
 const LAST_REFUSAL: usize = 16;
@@ -36,25 +36,41 @@ pub enum Stop {
     CannotRun(io::Error),
 }
 
+impl Stop {
+    /// The same, and a difference names the case.
+    pub fn of_case(self, name: &str) -> Stop {
+        match self {
+            Stop::Differs(difference) => {
+                let kind = format!("{}: {name}", difference.kind);
+                Stop::Differs(Difference { kind, ..difference })
+            }
+            Stop::CannotRun(error) => Stop::CannotRun(error),
+        }
+    }
+}
+
 pub type Judged = Result<(), Stop>;
 
 /// Which way a sheet goes: to the entry, or to the program too.
-#[derive(Clone, Copy, PartialEq, Eq)]
+#[derive(Clone, Copy)]
 pub enum Through {
     Entry,
     Both,
 }
 
+/// What was judged of one kind.
 #[derive(Default)]
 pub struct Row {
     pub kind: String,
+    /// Calls of the entry, and runs of the program.
     pub entry: u64,
     pub program: u64,
+    /// Cases by their expected outcome.
     pub accepted: u64,
     pub refused: u64,
 }
 
-/// How many of the accepted sheets have which answer.
+/// How many of the accepted cases have which answer.
 #[derive(Default)]
 pub struct Answers {
     pub whole: u64,
@@ -70,7 +86,7 @@ pub struct Judge {
     pub rows: Vec<Row>,
     current_row: usize,
     pub answers: Answers,
-    /// How many sheets were refused by each number.
+    /// How many cases were refused by each number.
     pub refusals: [u64; LAST_REFUSAL + 1],
     /// How many networks were reckoned by every side too.
     pub by_every_side: u64,
@@ -105,7 +121,13 @@ impl Judge {
         &mut self.rows[self.current_row]
     }
 
+    /// How many sheets were judged; the same sheet with other areas or pauses is another case.
     pub fn cases(&self) -> u64 {
+        self.rows.iter().map(|row| row.accepted + row.refused).sum()
+    }
+
+    /// How many calls of the entry and runs of the program were judged.
+    pub fn calls_and_runs(&self) -> u64 {
         self.rows.iter().map(|row| row.entry + row.program).sum()
     }
 
@@ -125,22 +147,21 @@ impl Judge {
 
     /// The sheet's answer is the expected one.
     pub fn expect(&mut self, sheet: &[u8], expected: &Outcome, through: Through) -> Judged {
+        self.count(expected);
         let side_length = self.random.between(SIDE_BYTES, LONGEST_AREA);
         let report_length = self.random.between(REPORT_BYTES, LONGEST_AREA);
         self.through_entry(sheet, expected, side_length, report_length)?;
-        if through == Through::Both {
-            self.through_program(sheet, expected, &[])?;
+        match through {
+            Through::Entry => Ok(()),
+            Through::Both => self.through_program(sheet, expected, &[]),
         }
-        self.count(expected);
-        Ok(())
     }
 
     /// The sheet is sent to the program with a pause at each of the offsets.
     pub fn with_pauses(&mut self, sheet: &[u8], pauses: &[usize]) -> Judged {
         let expected = report::outcome(sheet);
-        self.through_program(sheet, &expected, pauses)?;
         self.count(&expected);
-        Ok(())
+        self.through_program(sheet, &expected, pauses)
     }
 
     /// The entry is called with areas of all lengths from 0 on.
@@ -148,16 +169,17 @@ impl Judge {
         let outcome = report::outcome(sheet);
         for side_length in 0..=LONGEST_AREA {
             for report_length in 0..=LONGEST_AREA {
-                self.through_entry(sheet, &outcome, side_length, report_length)?;
                 match area_refusal(side_length, report_length) {
                     Some(number) => self.count_refusal(number),
                     None => self.count(&outcome),
                 }
+                self.through_entry(sheet, &outcome, side_length, report_length)?;
             }
         }
         Ok(())
     }
 
+    /// Counts a case by its expected outcome.
     fn count(&mut self, outcome: &Outcome) {
         match outcome {
             Err(refusal) => self.count_refusal(refusal.number),
@@ -206,20 +228,13 @@ impl Judge {
     }
 
     fn through_program(&mut self, sheet: &[u8], outcome: &Outcome, pauses: &[usize]) -> Judged {
-        let printed = program::run(&self.program, sheet, pauses).map_err(Stop::CannotRun)?;
+        let run = program::run(&self.program, sheet, pauses).map_err(Stop::CannotRun)?;
         self.row().program += 1;
-        let expected = report::lines(outcome);
-        if printed.output == expected.as_bytes() && printed.errors.is_empty() && printed.ended {
+        let expected = Run::of_lines(report::lines(outcome));
+        if run == expected {
             return Ok(());
         }
-        let mut got = String::from_utf8_lossy(&printed.output).into_owned();
-        if !printed.errors.is_empty() {
-            got.push_str(&format!("on standard error: {}\n", String::from_utf8_lossy(&printed.errors)));
-        }
-        if !printed.ended {
-            got.push_str("ended by a signal\n");
-        }
-        self.differs(sheet, expected, got)
+        self.differs(sheet, expected.show(), run.show())
     }
 
     /// Ends the comparison: the sheet has another answer than the expected one.

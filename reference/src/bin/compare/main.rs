@@ -19,10 +19,12 @@ use reference::random::Random;
 const USAGE: &str = "\
 usage: compare PROGRAM [--seed S] [--soak N]
 
-Sends sheets to the C entry and to the report program PROGRAM, and holds number, areas and lines against the reference's.
+Sends sheets to the C entry and to the report program PROGRAM, and holds number, areas, lines and exit status against
+the reference's.
 Without --soak: a fixed share of every kind, about a minute long, with seed 1 unless --seed gives another.
-With --soak N: N random cases with a new seed, which is printed first; --seed S --soak N runs the same cases again.
-Prints how many of what kind were run. The first answer that differs is printed with its sheet, and ends it with status 1.";
+With --soak N, from 1 on: N random cases with a new seed, which is printed first; --seed S --soak N runs the same again.
+Prints how many of what kind were run. A case is a sheet with its areas or pauses; it has an answer of the entry, one of the
+program, or both. The first answer that differs is printed with its sheet, and ends it with status 1.";
 
 const FIXED_SEED: u64 = 1;
 
@@ -40,7 +42,7 @@ fn settings() -> Option<Settings> {
         let value = arguments.next()?.to_str()?.parse().ok()?;
         match name.to_str()? {
             "--seed" => settings.seed = Some(value),
-            "--soak" => settings.soak = Some(value),
+            "--soak" if value > 0 => settings.soak = Some(value),
             _ => return None,
         }
     }
@@ -104,11 +106,11 @@ fn main() -> ExitCode {
         return ExitCode::from(2);
     }
     print_table(&judge);
-    let cases = judge.cases();
+    let (cases, answers) = (judge.cases(), judge.calls_and_runs());
     if let Err(Stop::Differs(difference)) = judged {
-        println!("{difference}\ncompare: {cases} cases, 1 differs, seed {seed}");
+        println!("{difference}\ncompare: {cases} cases, {answers} answers, 1 differs, seed {seed}");
         return ExitCode::FAILURE;
     }
-    println!("compare: {cases} cases, 0 differ, seed {seed}");
+    println!("compare: {cases} cases, {answers} answers, 0 differ, seed {seed}");
     ExitCode::SUCCESS
 }

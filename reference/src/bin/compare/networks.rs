@@ -9,7 +9,7 @@ use reference::{cuts, every_side};
 
 use crate::judge::{Judge, Judged, Through};
 
-/// From how many nodes on a network is no longer small, no longer of middle size.
+/// The least node counts of middle-sized and of large networks.
 const MIDDLE_NODES: usize = every_side::MOST_NODES + 1;
 const LARGE_NODES: usize = 41;
 
@@ -38,19 +38,19 @@ pub fn of_every_feature(judge: &mut Judge, random: &mut Random, counts: &Counts)
 }
 
 pub fn small(judge: &mut Judge, random: &mut Random, feature: Feature) -> Judged {
-    let size = generate::size(random, 2, every_side::MOST_NODES, feature);
+    let size = generate::random_size(random, 2, every_side::MOST_NODES, feature);
     let through = judge.both_once_in(2);
     judged(judge, random, size, feature, through)
 }
 
 pub fn middle(judge: &mut Judge, random: &mut Random, feature: Feature) -> Judged {
-    let size = generate::size(random, MIDDLE_NODES, LARGE_NODES - 1, feature);
+    let size = generate::random_size(random, MIDDLE_NODES, LARGE_NODES - 1, feature);
     judged(judge, random, size, feature, Through::Both)
 }
 
 /// A network of many nodes; of few trees, since the reference takes long for many.
 pub fn large(judge: &mut Judge, random: &mut Random, feature: Feature) -> Judged {
-    let mut size = generate::size(random, LARGE_NODES, MOST_NODES, feature);
+    let mut size = generate::random_size(random, LARGE_NODES, MOST_NODES, feature);
     size.trees = size.trees.min(3);
     judged(judge, random, size, feature, Through::Both)
 }
@@ -89,7 +89,10 @@ fn limits() -> Vec<(Size, Feature)> {
 fn judged(judge: &mut Judge, random: &mut Random, size: Size, feature: Feature, through: Through) -> Judged {
     let network = generate::network(random, size, feature);
     let shortest = sheet::write(&network);
-    let sheet = if random.once_in(3) { generate::longer_sheet(random, &network) } else { shortest.clone() };
+    let sheet = match random.once_in(3) {
+        true => sheet::write_with_maps(&network, &generate::longer_maps(random, &network.links)),
+        false => shortest.clone(),
+    };
     judge.longer += u64::from(sheet != shortest);
     let answer = cuts::answer(&network);
     let read = sheet::read(&sheet);

@@ -14,10 +14,12 @@ pub fn documented(judge: &mut Judge) -> Judged {
     judge.kind("document 01's networks");
     for case in documented::all() {
         let outcome = report::outcome(&case.sheet);
-        if report::lines(&outcome) != case.lines {
-            return judge.differs(&case.sheet, case.lines, report::lines(&outcome));
-        }
-        judge.expect(&case.sheet, &outcome, Through::Both)?;
+        let lines = report::lines(&outcome);
+        let judged = match lines == case.lines {
+            true => judge.expect(&case.sheet, &outcome, Through::Both),
+            false => judge.differs(&case.sheet, case.lines, lines + "by the reference\n"),
+        };
+        judged.map_err(|stop| stop.of_case(&case.name))?;
     }
     Ok(())
 }
@@ -41,12 +43,12 @@ pub fn area_lengths(judge: &mut Judge) -> Judged {
 
 /// A small random network's sheet, not always the shortest.
 pub fn random_base(random: &mut Random) -> Base {
-    let size = generate::size(random, 2, every_side::MOST_NODES, Feature::Any);
+    let size = generate::random_size(random, 2, every_side::MOST_NODES, Feature::Any);
     let network = generate::network(random, size, Feature::Any);
-    let mut maps = sheet::shortest_maps(&network.links);
-    if random.once_in(2) {
-        maps.iter_mut().for_each(|map| *map |= random.byte() & sheet::ALL_FIELDS);
-    }
+    let maps = match random.once_in(2) {
+        true => generate::longer_maps(random, &network.links),
+        false => sheet::shortest_maps(&network.links),
+    };
     Base::new(network, maps)
 }
 
@@ -62,7 +64,8 @@ pub fn refused(judge: &mut Judge, base: &Base, faults: &[&Fault], refusal: Refus
     judge.expect(&sheet, &expected, through)
 }
 
-/// Every single fault of the fixed bases and of random ones, and sheets that only look like one.
+/// Every single fault of the fixed bases and of random ones, sheets that only look like one, and a fault of each kind in every
+/// record of a large sheet.
 pub fn single_faults(judge: &mut Judge, random: &mut Random, random_bases: usize) -> Judged {
     judge.kind("single faults");
     let mut bases = faults::bases();
@@ -75,6 +78,12 @@ pub fn single_faults(judge: &mut Judge, random: &mut Random, random_bases: usize
         for sheet in faults::harmless(base) {
             judge.sheet(&sheet, Through::Both)?;
         }
+    }
+    let large = Base::with_all_fields(random, faults::LARGE_SIZE);
+    judge.sheet(&large.sheet, Through::Both)?;
+    for fault in faults::of_every_record(random, &large) {
+        let through = judge.both_once_in(10);
+        refused(judge, &large, &[&fault], fault.refusal, through)?;
     }
     Ok(())
 }
@@ -114,10 +123,7 @@ fn pair_of_faults(judge: &mut Judge, base: &Base, one: &Fault, other: &Fault, th
 
 /// A sheet of the greatest length with so many nodes.
 pub fn longest_sheet(random: &mut Random, nodes: usize) -> Base {
-    let size = Size::new(nodes, MOST_LINKS, MOST_TREES);
-    let network = generate::network(random, size, Feature::Any);
-    let maps = vec![sheet::ALL_FIELDS; MOST_LINKS];
-    Base::new(network, maps)
+    Base::with_all_fields(random, Size::new(nodes, MOST_LINKS, MOST_TREES))
 }
 
 /// Small sheets and a longest one, cut at every length.
