@@ -57,7 +57,7 @@ pub fn refusal_of(network: &Network, refusal: &Refusal) -> String {
             format!("tree {place} names {members} of the links, and a tree of {nodes} nodes has {}", nodes - 1)
         }
         (15, Place::Tree(place)) => format!("the links of tree {place} do not join every node to node 0"),
-        (number, _) => meaning(number).unwrap_or("for a reason without a name").to_string(),
+        (number, _) => meaning(number).unwrap_or_default().to_string(),
     }
 }
 
@@ -117,9 +117,10 @@ fn parse_answer(words: &[&str]) -> Option<Answer> {
     Some(Answer { verdict: verdict.parse().ok()?, floor: floor.parse().ok()?, candidate, side })
 }
 
-/// The links with exactly one end in a side.
-fn crossing<'a>(network: &'a Network, side: &'a [usize]) -> impl Iterator<Item = &'a Link> {
-    network.links.iter().filter(|link| side.contains(&link.first) != side.contains(&link.second))
+/// The numbers of the links with exactly one end in a side.
+fn crossing(network: &Network, side: &[usize]) -> Vec<usize> {
+    let crosses = |link: &Link| side.contains(&link.first) != side.contains(&link.second);
+    (0..network.links.len()).filter(|&link| crosses(&network.links[link])).collect()
 }
 
 /// Says in what an answer contradicts the network that it was given for, or itself.
@@ -132,14 +133,12 @@ fn contradiction(network: &Network, answer: &Answer) -> Option<&'static str> {
     let Some(tree) = network.trees.get(candidate.tree) else {
         return Some("the network has no such tree");
     };
-    let mut named = [Some(candidate.first), candidate.second].into_iter().flatten();
-    if !named.all(|link| tree.members.contains(&link)) {
-        return Some("a link is not one of the tree's");
+    let crossing = crossing(network, side);
+    let named = [candidate.first].into_iter().chain(candidate.second);
+    if !named.eq(crossing.iter().copied().filter(|link| tree.members.contains(link))) {
+        return Some("the links named are not those of the tree that cross the side");
     }
-    if candidate.second.is_some_and(|second| second <= candidate.first) {
-        return Some("the second link is not behind the first");
-    }
-    if crossing(network, side).map(|link| link.weight).sum::<u64>() != candidate.weight {
+    if crossing.iter().map(|&link| network.links[link].weight).sum::<u64>() != candidate.weight {
         return Some("the links that cross the side have another weight");
     }
     let whole = *verdict == cuts::WHOLE && *floor == candidate.weight;
@@ -160,7 +159,7 @@ pub fn sentence(network: &Network, answer: &Answer) -> Result<String, &'static s
         None => format!("Link {first} of tree {tree} names the cut"),
         Some(second) => format!("Links {first} and {second} of tree {tree} name the cut"),
     };
-    let weighs = match crossing(network, &answer.side).count() {
+    let weighs = match crossing(network, &answer.side).len() {
         1 => format!("the one link that it crosses weighs {weight}"),
         _ => format!("the links that it crosses weigh {weight} together"),
     };

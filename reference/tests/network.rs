@@ -1,33 +1,35 @@
 //! The command `network` as a planner runs it: what it prints, and its exit status.
 
+use reference::documented::CASE_A;
+use std::fs::File;
 use std::io::Write;
 use std::path::{Path, PathBuf};
-use std::process::{Command, Stdio};
+use std::process::{Child, Command, Stdio};
 
+/// Document 01's case A.
 const TRIANGLE: &str = "# A triangle\nnodes 3\nlink 0-1:3\nlink 1-2:2\nlink 0-2:4\ntree share 2 links 0 2\n";
-#[rustfmt::skip]
-const TRIANGLE_SHEET: [u8; 35] = [
-    0x03, 0x00, 0x03, 0x00, 0x01,
-    0x07, 0x00, 0x00, 0x01, 0x00, 0x03, 0x00, 0x00, 0x00,
-    0x07, 0x01, 0x00, 0x02, 0x00, 0x02, 0x00, 0x00, 0x00,
-    0x05, 0x00, 0x00, 0x04, 0x00, 0x00, 0x00,
-    0x02, 0x00, 0x00, 0x00, 0x05,
-];
 
-/// Exit status, standard output and standard error of the command.
-fn network(arguments: &[&str], input: &[u8]) -> (Option<i32>, Vec<u8>, String) {
-    let mut child = Command::new(env!("CARGO_BIN_EXE_network"))
+fn start(arguments: &[&str], output: Stdio) -> Child {
+    Command::new(env!("CARGO_BIN_EXE_network"))
         .args(arguments)
         .current_dir(env!("CARGO_TARGET_TMPDIR"))
         .stdin(Stdio::piped())
-        .stdout(Stdio::piped())
+        .stdout(output)
         .stderr(Stdio::piped())
         .spawn()
-        .expect("the command starts");
+        .expect("the command starts")
+}
+
+/// Exit status, standard output and standard error of the command that was started, after this input.
+fn finish(mut child: Child, input: &[u8]) -> (Option<i32>, Vec<u8>, String) {
     // a command that only prints its usage may have ended before it reads
     let _ = child.stdin.take().expect("its standard input").write_all(input);
     let output = child.wait_with_output().expect("the command ends");
     (output.status.code(), output.stdout, String::from_utf8(output.stderr).expect("text"))
+}
+
+fn network(arguments: &[&str], input: &[u8]) -> (Option<i32>, Vec<u8>, String) {
+    finish(start(arguments, Stdio::piped()), input)
 }
 
 /// A program that takes its standard input and prints the given lines, or ends with a status. A shell writes it, so that no
@@ -63,8 +65,8 @@ fn bad_arguments_give_the_usage() {
 #[test]
 fn text_becomes_a_sheet_and_text_again() {
     let sheet = network(&["sheet"], TRIANGLE.as_bytes());
-    assert_eq!(sheet, (Some(0), TRIANGLE_SHEET.to_vec(), String::new()));
-    let text = network(&["text"], &TRIANGLE_SHEET);
+    assert_eq!(sheet, (Some(0), CASE_A.to_vec(), String::new()));
+    let text = network(&["text"], &CASE_A);
     let without_title = TRIANGLE.replace("# A triangle\n", "");
     assert_eq!(text, (Some(0), without_title.into_bytes(), String::new()));
 }
@@ -91,10 +93,10 @@ fn a_sheet_that_will_be_refused_is_written_with_a_note() {
 #[test]
 fn a_refused_sheet_has_no_text() {
     let refusals: [(&[u8], &str); 4] = [
-        (&TRIANGLE_SHEET[..4], "number 3, at the header: the sheet has fewer than 5 bytes"),
-        (&TRIANGLE_SHEET[..14], "number 7, at link 1: no map byte is left for a link"),
-        (&TRIANGLE_SHEET[..34], "number 12, at tree 0: the sheet ends inside or before a tree record"),
-        (&[&TRIANGLE_SHEET[..], &[0]].concat(), "number 16, at the end: bytes follow the last tree"),
+        (&CASE_A[..4], "number 3, at the header: the sheet has fewer than 5 bytes"),
+        (&CASE_A[..14], "number 7, at link 1: no map byte is left for a link"),
+        (&CASE_A[..34], "number 12, at tree 0: the sheet ends inside or before a tree record"),
+        (&[&CASE_A[..], &[0]].concat(), "number 16, at the end: bytes follow the last tree"),
     ];
     for (sheet, words) in refusals {
         let expected = format!("standard input: the sheet is refused, {words}\n");
@@ -111,14 +113,12 @@ fn a_report_has_title_lines_and_meaning() {
 }
 
 #[test]
-fn a_refusal_is_explained_from_the_programs_number() {
+fn a_refusal_is_explained() {
     let text = "nodes 2\nlink 0-1:1000001\ntree share 1 links 0\n";
     let named =
         "refused.net\nrefused 11\nThe sheet is refused for line 2: link 0 weighs 1000001, and the monitor takes at \
                  most 1000000.\n";
     assert_eq!(report("refused.net", text, "echo refused 11"), (Some(0), named.to_string(), String::new()));
-    let unnamed = "other.net\nrefused 12\nThe sheet is refused: the sheet ends inside or before a tree record.\n";
-    assert_eq!(report("other.net", text, "echo refused 12"), (Some(0), unnamed.to_string(), String::new()));
 }
 
 #[test]
@@ -126,6 +126,7 @@ fn a_program_that_prints_no_report_is_an_error() {
     let wrong = [
         ("layout.net", "echo answer 2", "printed \"answer 2\\n\": these are not the lines of a report\n"),
         ("weight.net", "echo answer 2 6 6 0 0 - 1; echo side 1", "the links that cross the side have another weight\n"),
+        ("refusal.net", "echo refused 12", "printed \"refused 12\\n\": the sheet must not be refused\n"),
         ("status.net", "echo refused 4; exit 3", "ended with exit status: 3\n"),
     ];
     for (name, commands, error) in wrong {
@@ -133,6 +134,31 @@ fn a_program_that_prints_no_report_is_an_error() {
         assert_eq!((status, printed.as_str()), (Some(1), ""), "{name}");
         assert!(errors.starts_with(name) && errors.ends_with(error), "{errors}");
     }
+}
+
+#[test]
+fn another_refusal_than_the_networks_and_an_answer_are_an_error() {
+    let text = "nodes 2\nlink 0-1:1000001\ntree share 1 links 0\n";
+    for (name, commands) in
+        [("number.net", "echo refused 12"), ("answered.net", "echo answer 1 1000001 3 0 0 - 1; echo side 1")]
+    {
+        let (status, printed, errors) = report(name, text, commands);
+        assert_eq!((status, printed.as_str()), (Some(1), ""), "{name}");
+        assert!(errors.starts_with(name) && errors.ends_with(": the sheet has to be refused, number 11\n"), "{errors}");
+    }
+}
+
+#[test]
+fn reports_end_at_the_first_that_cannot_be_printed() {
+    let program = stand_in("unprinted.program", "echo refused 4");
+    let arguments = ["report", &program.to_string_lossy(), "/dev/stdin", "missing.net"];
+    let mut unread = start(&arguments, Stdio::piped());
+    drop(unread.stdout.take());
+    assert_eq!(finish(unread, b"nodes 1\n"), (Some(1), vec![], String::new()));
+    let full = File::create("/dev/full").expect("a file that cannot be written");
+    let (status, _, errors) = finish(start(&arguments, full.into()), b"nodes 1\n");
+    assert_eq!((status, errors.lines().count()), (Some(1), 1), "{errors}");
+    assert!(errors.starts_with("standard output: "), "{errors}");
 }
 
 #[test]

@@ -4,8 +4,8 @@ use reference::explain::{self, Printed};
 use reference::text::{self, Parsed};
 use reference::{sheet, sheet::Refusal};
 use std::ffi::{OsStr, OsString};
-use std::io::{self, Read, Write};
-use std::process::{Command, ExitCode, Output, Stdio};
+use std::io::{self, ErrorKind, Read, Write};
+use std::process::{self, Command, ExitCode, Output, Stdio};
 
 const USAGE: &str = "\
 network sheet [FILE]              turns a network as text into a link sheet
@@ -15,6 +15,7 @@ network report PROGRAM FILE...    runs the report program on networks as text an
 Without FILE, standard input is read. The result goes to standard output. docs/NETWORKS.md describes the text.
 ";
 const BAD_USAGE: u8 = 2;
+const NOT_PRINTED: i32 = 1;
 
 fn main() -> ExitCode {
     let arguments: Vec<OsString> = std::env::args_os().skip(1).collect();
@@ -71,9 +72,15 @@ impl<'a> Source<'a> {
     }
 }
 
-fn print(bytes: &[u8]) -> Result<(), String> {
+/// Prints to standard output. If that fails, the command ends, without a message if nobody reads any more.
+fn print(bytes: &[u8]) {
     let mut output = io::stdout().lock();
-    output.write_all(bytes).and_then(|()| output.flush()).map_err(|error| format!("standard output: {error}"))
+    if let Err(error) = output.write_all(bytes).and_then(|()| output.flush()) {
+        if error.kind() != ErrorKind::BrokenPipe {
+            eprintln!("standard output: {error}");
+        }
+        process::exit(NOT_PRINTED);
+    }
 }
 
 /// Writes the sheet, and a note if the monitor will refuse it.
@@ -85,12 +92,16 @@ fn sheet_of_text(source: &Source) -> Result<(), String> {
         let (line, why) = (parsed.line_of(&refusal), explain::refusal_of(&parsed.network, &refusal));
         eprintln!("{}:{line}: the monitor refuses this sheet, number {number}: {why}", source.name());
     }
-    print(&bytes)
+    print(&bytes);
+    Ok(())
 }
 
 fn text_of_sheet(source: &Source) -> Result<(), String> {
     match sheet::read(&source.read()?) {
-        Ok(network) => print(text::write(&network).as_bytes()),
+        Ok(network) => {
+            print(text::write(&network).as_bytes());
+            Ok(())
+        }
         Err(Refusal { number, place }) => {
             let (place, meaning) = (explain::place_name(place), explain::meaning(number).unwrap_or_default());
             Err(format!("{}: the sheet is refused, number {number}, at {place}: {meaning}", source.name()))
@@ -102,40 +113,42 @@ fn text_of_sheet(source: &Source) -> Result<(), String> {
 fn report_all(program: &OsStr, files: &[&OsStr]) -> ExitCode {
     let mut exit = ExitCode::SUCCESS;
     for (place, file) in files.iter().enumerate() {
-        let parted = if place > 0 { print(b"\n") } else { Ok(()) };
-        if let Err(message) = parted.and_then(|()| report(program, &Source(Some(file)))) {
+        if place > 0 {
+            print(b"\n");
+        }
+        if let Err(message) = report(program, &Source(Some(file))) {
             exit = status(Err(message));
         }
     }
     exit
 }
 
-/// Prints the title of a network, the report program's lines for it, and what they mean.
+/// Prints the title of a network and its path as given, the report program's lines for it, and what they mean.
 fn report(program: &OsStr, source: &Source) -> Result<(), String> {
     let parsed = source.parse()?;
     let bytes = sheet::write(&parsed.network);
     let lines = lines_of(program, &bytes).map_err(|error| format!("{}: {error}", source.name()))?;
-    let failed = |what: &str| format!("{}: {} printed {lines:?}: {what}", source.name(), program.to_string_lossy());
-    let meaning = match explain::parse_lines(&lines) {
-        None => return Err(failed("these are not the lines of a report")),
-        Some(Printed::Refused(number)) => refused(&parsed, number),
-        Some(Printed::Answered(answer)) => explain::sentence(&parsed.network, &answer).map_err(failed)?,
-    };
+    let failed = |what| format!("{}: {} printed {lines:?}: {what}", source.name(), program.to_string_lossy());
+    let meaning = meaning(&parsed, &bytes, &lines).map_err(failed)?;
     let title = match &parsed.title {
         Some(title) => format!("{title} ({})", source.name()),
         None => source.name(),
     };
-    print(format!("{title}\n{lines}{meaning}\n").as_bytes())
+    print(format!("{title}\n{lines}{meaning}\n").as_bytes());
+    Ok(())
 }
 
-/// What a refusal means, with the line of the text where the fault is found there.
-fn refused(parsed: &Parsed, number: u32) -> String {
-    match sheet::read(&sheet::write(&parsed.network)) {
-        Err(refusal) if refusal.number == number => {
+/// What the lines mean for a text and its sheet; an error if they cannot be the lines for it.
+fn meaning(parsed: &Parsed, sheet: &[u8], lines: &str) -> Result<String, String> {
+    let printed = explain::parse_lines(lines).ok_or("these are not the lines of a report")?;
+    match (printed, sheet::read(sheet)) {
+        (Printed::Answered(answer), Ok(network)) => Ok(explain::sentence(&network, &answer)?),
+        (Printed::Refused(number), Err(refusal)) if refusal.number == number => {
             let (line, why) = (parsed.line_of(&refusal), explain::refusal_of(&parsed.network, &refusal));
-            format!("The sheet is refused for line {line}: {why}.")
+            Ok(format!("The sheet is refused for line {line}: {why}."))
         }
-        _ => format!("The sheet is refused: {}.", explain::meaning(number).unwrap_or_default()),
+        (_, Err(refusal)) => Err(format!("the sheet has to be refused, number {}", refusal.number)),
+        (_, Ok(_)) => Err("the sheet must not be refused".to_string()),
     }
 }
 

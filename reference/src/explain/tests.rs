@@ -131,9 +131,13 @@ fn an_answer_that_does_not_fit_the_network_is_an_error() {
     assert_sentence(&ring, "answer 2 2 2 0 0 - 2\nside 2 1\n", Err(side));
     assert_sentence(&ring, "answer 2 2 2 0 0 - 2\nside 1 4\n", Err(side));
     assert_sentence(&ring, "answer 2 2 2 1 0 - 1\nside 1\n", Err("the network has no such tree"));
-    assert_sentence(&ring, "answer 2 2 2 0 3 - 1\nside 1\n", Err("a link is not one of the tree's"));
-    assert_sentence(&ring, "answer 2 2 2 0 0 3 1\nside 1\n", Err("a link is not one of the tree's"));
-    assert_sentence(&ring, "answer 2 2 2 0 1 0 1\nside 1\n", Err("the second link is not behind the first"));
+    let links = "the links named are not those of the tree that cross the side";
+    assert_sentence(&ring, "answer 2 2 2 0 2 - 3\nside 1 2 3\n", Err(links));
+    assert_sentence(&ring, "answer 2 2 2 0 0 3 3\nside 1 2 3\n", Err(links));
+    assert_sentence(&ring, "answer 2 2 2 0 0 - 1\nside 1\n", Err(links));
+    assert_sentence(&ring, "answer 2 2 2 0 0 2 1\nside 1\n", Err(links));
+    assert_sentence(&ring, "answer 2 2 2 0 1 0 1\nside 1\n", Err(links));
+    assert_sentence(&ring, "answer 2 4 4 0 0 2 2\nside 1 3\n", Err(links));
     let weight = "the links that cross the side have another weight";
     assert_sentence(&ring, "answer 2 3 3 0 0 1 1\nside 1\n", Err(weight));
     let verdict = "verdict, weight and floor do not go together";

@@ -60,6 +60,10 @@ impl<'a> Line<'a> {
         if self.next_word() != word {
             return self.fault_here(&format!("'{word}' behind {behind}"));
         }
+        let (read, _) = self.text.split_at(self.text.len() - self.unread.len());
+        if !read.ends_with(char::is_whitespace) {
+            return self.fault(&format!("expected a space between {behind} and '{word}'"));
+        }
         self.word();
         Ok(())
     }

@@ -1,17 +1,10 @@
 use super::*;
+use crate::documented::CASE_A;
 use crate::{explain, report, sheet};
 use std::path::Path;
 
 /// Document 01's case A.
 const TRIANGLE: &str = "nodes 3\nlink 0-1:3\nlink 1-2:2\nlink 0-2:4\ntree share 2 links 0 2\n";
-#[rustfmt::skip]
-const TRIANGLE_SHEET: [u8; 35] = [
-    0x03, 0x00, 0x03, 0x00, 0x01,
-    0x07, 0x00, 0x00, 0x01, 0x00, 0x03, 0x00, 0x00, 0x00,
-    0x07, 0x01, 0x00, 0x02, 0x00, 0x02, 0x00, 0x00, 0x00,
-    0x05, 0x00, 0x00, 0x04, 0x00, 0x00, 0x00,
-    0x02, 0x00, 0x00, 0x00, 0x05,
-];
 
 fn network(text: &str) -> Network {
     parse(text.as_bytes()).expect("a text without a fault").network
@@ -24,8 +17,8 @@ fn assert_fault(text: impl AsRef<[u8]>, line: usize, message: &str) {
 
 #[test]
 fn case_a_has_document_01s_bytes() {
-    assert_eq!(sheet::write(&network(TRIANGLE)), TRIANGLE_SHEET);
-    assert_eq!(write(&sheet::read(&TRIANGLE_SHEET).expect("an accepted sheet")), TRIANGLE);
+    assert_eq!(sheet::write(&network(TRIANGLE)), CASE_A);
+    assert_eq!(write(&sheet::read(&CASE_A).expect("an accepted sheet")), TRIANGLE);
 }
 
 #[test]
@@ -130,6 +123,8 @@ fn a_wrong_tree_is_a_fault() {
         ),
         ("tree share 1", "expected 'links' behind the share"),
         ("tree share 1 link 0", "expected 'links' behind the share, found 'link'"),
+        ("tree share 1links 0", "expected a space between the share and 'links'"),
+        ("tree share 1links", "expected a space between the share and 'links'"),
         ("tree share 1 links 0 1 2", "expected the number of a link of this file, 0 to 1, found 2"),
         ("tree share 1 links 0 1 0", "expected each link once, found link 0 twice"),
         ("tree share 1 links 0, 1", "expected a link number, found ','"),
