@@ -14,7 +14,7 @@ test:
 	@tools/test
 
 soak:
-	@tools/compare --soak $(N) $(if $(SEED),--seed $(SEED))
+	@tools/compare --soak $(N) $(if $(filter command,$(firstword $(origin SEED))),--seed $(SEED))
 
 bench:
 	@tools/bench
