@@ -98,7 +98,7 @@ fn print_table() {
         (Size::new(40, 80, 4), all, 100),
         (Size::new(128, 512, 8), all, 5),
         (Size::new(256, 2048, 1), all, 5),
-        (LONGEST, &all[..2], 2),
+        (LONGEST, &all[..2], 3),
     ];
     let mut largest: f64 = 0.0;
     for (size, kinds, repetitions) in rows {

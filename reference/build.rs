@@ -6,8 +6,10 @@ const CALLERS: [&str; 2] = ["compare", "bench"];
 
 fn main() {
     println!("cargo:rerun-if-changed=build.rs");
-    println!("cargo:rerun-if-changed={ARCHIVE}");
-    for caller in CALLERS {
-        println!("cargo:rustc-link-arg-bin={caller}={ARCHIVE}");
+    if std::env::var_os("CARGO_FEATURE_ARCHIVE").is_some() {
+        println!("cargo:rerun-if-changed={ARCHIVE}");
+        for caller in CALLERS {
+            println!("cargo:rustc-link-arg-bin={caller}={ARCHIVE}");
+        }
     }
 }
