@@ -3,6 +3,7 @@
 use crate::cuts;
 use crate::network::{joining, Link, Network, Tree};
 use crate::random::Random;
+use crate::shapes::SHAPES;
 use crate::sheet::{self, MOST_LINKS, MOST_TREES, MOST_WEIGHT};
 
 #[derive(Clone, Copy, Debug)]
@@ -131,20 +132,11 @@ pub fn longer_maps(random: &mut Random, links: &[Link]) -> Vec<u8> {
     maps
 }
 
-/// The ends of links that join all nodes as a tree: random, a path, a star, or a caterpillar.
+/// The ends of links that join all nodes as a tree of any shape.
 fn base_tree(random: &mut Random, nodes: usize) -> Vec<(usize, usize)> {
     let mut order: Vec<usize> = (0..nodes).collect();
     random.shuffle(&mut order);
-    let shape = random.below(4);
-    let spine = nodes.div_ceil(2);
-    let join = |place: usize, random: &mut Random| match shape {
-        0 => random.below(place),
-        1 => place - 1,
-        2 => 0,
-        _ if place < spine => place - 1,
-        _ => random.below(spine),
-    };
-    (1..nodes).map(|place| (order[join(place, random)], order[place])).collect()
+    random.pick(&SHAPES).ends(random, &order)
 }
 
 /// The ends of so many links. The first join all nodes as a tree.
@@ -171,7 +163,7 @@ fn joining_ends(random: &mut Random, size: Size, feature: Feature) -> Vec<(usize
 }
 
 /// Two different nodes.
-fn two_of(random: &mut Random, nodes: &[usize]) -> (usize, usize) {
+pub fn two_of(random: &mut Random, nodes: &[usize]) -> (usize, usize) {
     let first = random.below(nodes.len());
     let second = (first + random.between(1, nodes.len() - 1)) % nodes.len();
     (nodes[first], nodes[second])

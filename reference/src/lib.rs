@@ -12,5 +12,6 @@ pub mod generate;
 pub mod network;
 pub mod random;
 pub mod report;
+pub mod shapes;
 pub mod sheet;
 pub mod text;
