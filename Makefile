@@ -2,7 +2,7 @@
 # make demo NET=file         the report of a network of yours, as text
 # make test                  prove and test everything; the last line is `N passed, 0 failed`
 # make soak [N=100000]       compare so many random cases with the reference; SEED=.. repeats a run
-# make bench                 the entry's time against plain Rust and against the reference, as ratios
+# make bench                 the entry's time against its search alone and against the plain method, as ratios with limits
 .PHONY: demo test soak bench
 
 N ?= 100000

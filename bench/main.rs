@@ -1,152 +1,159 @@
-//! Times the entry `wcut_report` of the proved archive against the same method written plainly in Rust and against the reference
-//! implementation, which has another method. Sound networks of three kinds are made from a fixed seed and written as sheets. All
-//! three answer each sheet and must agree; they are timed in turns, the best time of each counts.
-//! With `--stack`, it prints instead how many bytes of stack the entry takes for a longest sheet.
+//! Times the entry `wcut_report` of the proved archive, from a sheet's bytes to both areas, against two in plain Rust: its search alone
+//! (`plain`), for a network that was read already, and whole the plain method (`before`), which weighs every pair by itself. The networks
+//! are made from a fixed seed and written as sheets. All three answer each sheet and must agree; they are timed in turns, and the best
+//! time of each counts.
+//! With `--stack`, it prints instead how many bytes of stack the entry takes for longest sheets.
 
+mod answer;
+mod before;
 mod networks;
+mod places;
 mod plain;
+mod read;
+mod rows;
+mod stack;
 
-use networks::Kind;
+use answer::Outcome;
+use networks::{Kind, KINDS};
 use reference::entry::wcut_report;
 use reference::generate::Size;
-use reference::report::{self, REPORT_BYTES, SIDE_BYTES};
-use std::arch::asm;
 use std::process::exit;
-use std::time::{Duration, Instant};
-
-/// The entry may take so many times as long as plain Rust.
-const MOST_RATIO: f64 = 2.0;
+use std::time::Instant;
 
 const LONGEST: Size = Size::new(256, 2048, 32);
+const MIDDLE: Size = Size::new(40, 80, 4);
+/// Sizes that differ from the longest in one number.
+const SERIES: [Size; 6] = [
+    Size::new(256, 2048, 1),
+    Size::new(256, 2048, 8),
+    Size::new(64, 2048, 32),
+    Size::new(128, 2048, 32),
+    Size::new(256, 512, 32),
+    Size::new(256, 1024, 32),
+];
 
-/// What a call leaves: the number that it returned and both areas.
-#[derive(Debug, PartialEq)]
-struct Outcome {
-    number: u32,
-    side: [u8; SIDE_BYTES],
-    report: [u8; REPORT_BYTES],
+/// How often a node's links are added to the rows of one tree at most: in the node's own row, and in that of each node above it whose
+/// heaviest child does not stand between them. In a tree of 256 nodes there are at most 7 such nodes.
+const LINK_STEPS: usize = 8;
+
+/// The best times of one sheet, in seconds.
+struct Times {
+    entry: f64,
+    search: f64,
+    before: f64,
 }
+
+/// The entry's time over the others' times.
+struct Ratios {
+    search: f64,
+    before: f64,
+}
+
+const LONGEST_LIMITS: Ratios = Ratios { search: 1.3, before: 1.0 / 10.0 };
+const MIDDLE_LIMITS: Ratios = Ratios { search: 1.5, before: 1.0 / 4.0 };
 
 fn entry(sheet: &[u8]) -> Outcome {
-    let (mut side, mut report) = ([0; SIDE_BYTES], [0; REPORT_BYTES]);
+    let mut outcome = Outcome::unwritten(0);
+    let Outcome { number, side, report } = &mut outcome;
     // SAFETY: each pointer is that of a slice with the length behind it, and the three slices do not overlap.
-    let number = unsafe {
+    *number = unsafe {
         wcut_report(sheet.as_ptr(), sheet.len(), side.as_mut_ptr(), side.len(), report.as_mut_ptr(), report.len())
     };
-    Outcome { number, side, report }
+    outcome
 }
 
-fn reference(sheet: &[u8]) -> Outcome {
-    match report::outcome(sheet) {
-        Ok(answer) => Outcome { number: 0, side: report::side_area(&answer), report: report::report_area(&answer) },
-        Err(refusal) => Outcome { number: refusal.number, side: [0; SIDE_BYTES], report: [0; REPORT_BYTES] },
-    }
+/// The call's answer; its time counts where it is the best.
+fn timed<T>(best: &mut f64, call: impl FnOnce() -> T) -> T {
+    let start = Instant::now();
+    let answer = call();
+    *best = best.min(start.elapsed().as_secs_f64());
+    answer
 }
 
-/// The three that are timed, the entry first.
-const CONTENDERS: [fn(&[u8]) -> Outcome; 3] = [entry, plain::report, reference];
-
-/// The best time of each contender, timed in turns, or the answers that differ.
-fn best_times(sheet: &[u8], repetitions: usize) -> Result<[Duration; 3], String> {
-    let mut best = [Duration::MAX; 3];
-    for _ in 0..repetitions {
-        let [entry, plain, reference] = CONTENDERS.map(|contender| timed(|| contender(sheet)));
-        if entry.0 != plain.0 || entry.0 != reference.0 || entry.0.number != 0 {
-            return Err(format!("entry: {:?}\nplain: {:?}\nreference: {:?}", entry.0, plain.0, reference.0));
-        }
-        for (best, time) in best.iter_mut().zip([entry.1, plain.1, reference.1]) {
-            *best = time.min(*best);
+/// The best time of each, or the answers that differ. In each turn the plain method is timed once, the others so many times.
+fn best_times(bytes: &[u8], turns: usize, calls: usize) -> Result<Times, String> {
+    let sheet = read::read_sheet(bytes).map_err(|number| format!("refused {number}"))?;
+    let mut best = Times { entry: f64::MAX, search: f64::MAX, before: f64::MAX };
+    for _ in 0..turns {
+        let before = timed(&mut best.before, || before::report(bytes));
+        for _ in 0..calls {
+            let entry = timed(&mut best.entry, || entry(bytes));
+            let found = timed(&mut best.search, || plain::search(&sheet));
+            let search = answer::accepted(&sheet, &found);
+            if entry != before || search != before {
+                return Err(format!("entry: {entry:?}\nsearch: {search:?}\nbefore: {before:?}"));
+            }
         }
     }
     Ok(best)
 }
 
-fn timed(call: impl FnOnce() -> Outcome) -> (Outcome, Duration) {
-    let start = Instant::now();
-    let outcome = call();
-    (outcome, start.elapsed())
-}
-
-/// Prints the row of one network and answers the ratio of the entry to plain Rust.
-fn print_row(size: Size, kind: Kind, repetitions: usize) -> f64 {
-    let times = best_times(&networks::sheet(size, kind), repetitions).unwrap_or_else(|differs| {
+/// Prints the row of one network and answers its ratios.
+fn print_row(size: Size, kind: &Kind, turns: usize, calls: usize) -> Ratios {
+    let times = best_times(&networks::sheet(size, kind), turns, calls);
+    let Times { entry, search, before } = times.unwrap_or_else(|differs| {
         eprintln!("the answers differ\n{differs}");
         exit(1)
     });
-    let [entry, plain, reference] = times.map(|time| time.as_secs_f64());
+    let steps = size.trees * (LINK_STEPS * size.links + size.nodes * size.nodes);
     println!(
-        "{:>5} {:>5} {:>5}  {:<6} {:>10.3} {:>10.3} {:>10.3} {:>13.2} {:>17.3}",
+        "{:>5} {:>5} {:>5}  {:<11} {:>9.4} {:>9.4} {:>9.3} {:>12.2} {:>12.3} {:>7.2}",
         size.nodes,
         size.links,
         size.trees,
-        kind.name(),
+        kind.name,
         1e3 * entry,
-        1e3 * plain,
-        1e3 * reference,
-        entry / plain,
-        entry / reference,
+        1e3 * search,
+        1e3 * before,
+        entry / search,
+        entry / before,
+        1e9 * entry / steps as f64,
     );
-    entry / plain
+    Ratios { search: entry / search, before: entry / before }
 }
 
-fn print_table() {
-    println!("nodes links trees  kind     entry ms   plain ms  refer. ms   entry/plain   entry/reference");
-    let all = &[Kind::Random, Kind::Path, Kind::Star][..];
-    let rows = [
-        (Size::new(10, 20, 2), all, 1000),
-        (Size::new(40, 80, 4), all, 100),
-        (Size::new(128, 512, 8), all, 5),
-        (Size::new(256, 2048, 1), all, 5),
-        (LONGEST, &all[..2], 3),
-    ];
-    let mut largest: f64 = 0.0;
-    for (size, kinds, repetitions) in rows {
-        for &kind in kinds {
-            largest = largest.max(print_row(size, kind, repetitions));
-        }
+/// Prints the rows of all kinds and answers the largest ratios.
+fn print_kinds(size: Size, turns: usize, calls: usize) -> Ratios {
+    let mut largest = Ratios { search: 0.0, before: 0.0 };
+    for kind in &KINDS {
+        let ratios = print_row(size, kind, turns, calls);
+        largest.search = largest.search.max(ratios.search);
+        largest.before = largest.before.max(ratios.before);
     }
-    println!("largest ratio to plain Rust {largest:.2}");
-    if largest > MOST_RATIO {
-        exit(1)
-    }
+    largest
 }
 
-/// Calls the entry on a painted stack of its own and counts the bytes from its top down to the last one overwritten.
-fn stack_depth(sheet: &[u8]) -> usize {
-    const PAINT: u128 = u128::MAX / 3;
-    let mut stack = vec![PAINT; 8192];
-    let (mut side, mut report) = ([0u8; SIDE_BYTES], [0u8; REPORT_BYTES]);
-    let number: u32;
-    // SAFETY: as in `entry`. The call has the C convention's registers, and a stack of its own whose top is aligned to 16 bytes and
-    // which is larger than the entry needs; r12 holds the stack before, since the convention keeps it.
-    unsafe {
-        asm!(
-            "xchg rsp, r12",
-            "call {entry}",
-            "mov rsp, r12",
-            entry = sym wcut_report,
-            inout("r12") stack.as_mut_ptr_range().end => _,
-            in("rdi") sheet.as_ptr(),
-            in("rsi") sheet.len(),
-            in("rdx") side.as_mut_ptr(),
-            in("rcx") side.len(),
-            in("r8") report.as_mut_ptr(),
-            in("r9") report.len(),
-            lateout("eax") number,
-            clobber_abi("C"),
-        );
+/// Prints the largest ratios of some sheets with their limits, and answers whether they keep them.
+fn print_largest(sheets: &str, largest: &Ratios, limits: &Ratios) -> bool {
+    let both = [("search", largest.search, limits.search), ("before", largest.before, limits.before)];
+    for (other, ratio, limit) in both {
+        let kept = if ratio <= limit { "" } else { ": EXCEEDED" };
+        println!("{sheets}: largest entry/{other} {ratio:.3}, limit {limit:.3}{kept}");
     }
-    assert_eq!(number, 0);
-    let untouched = stack.iter().take_while(|&&word| word == PAINT).count();
-    size_of_val(&stack[untouched..])
+    both.iter().all(|(_, ratio, limit)| ratio <= limit)
+}
+
+/// Prints all rows and the largest ratios, and answers whether these keep their limits.
+fn print_table() -> bool {
+    println!("Best times. entry: from bytes to both areas; search: its search alone, in plain Rust; before: the plain method whole, in");
+    println!("plain Rust; ns/step: the entry's time over trees x ({LINK_STEPS} x links + nodes x nodes).");
+    println!("nodes links trees  kind         entry ms search ms before ms entry/search entry/before ns/step");
+    let longest = print_kinds(LONGEST, 4, 150);
+    let middle = print_kinds(MIDDLE, 400, 20);
+    for size in SERIES {
+        print_row(size, &KINDS[0], 3, 150);
+    }
+    let longest_kept = print_largest("256 nodes, 2048 links, 32 trees", &longest, &LONGEST_LIMITS);
+    let middle_kept = print_largest("40 nodes, 80 links, 4 trees", &middle, &MIDDLE_LIMITS);
+    longest_kept && middle_kept
 }
 
 fn main() {
     match std::env::args().nth(1).as_deref() {
-        None => print_table(),
+        None => exit(i32::from(!print_table())),
         Some("--stack") => {
-            let depth = stack_depth(&networks::sheet(LONGEST, Kind::Path));
-            println!("stack depth {depth} bytes");
+            let depths = KINDS.map(|kind| stack::depth(&networks::sheet(LONGEST, &kind)));
+            println!("stack depth {} bytes", depths.into_iter().max().unwrap_or(0));
         }
         Some(_) => {
             eprintln!("usage: bench [--stack]");

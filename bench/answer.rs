@@ -1,0 +1,78 @@
+//! What is answered: the candidate found, its floor and verdict, and the bytes of both areas.
+
+use crate::read::{bit_set, Sheet};
+use reference::report::{REPORT_BYTES, SIDE_BYTES};
+
+const NO_SECOND: u16 = 65535;
+
+/// What a call leaves: the number that it returned and both areas.
+#[derive(Debug, PartialEq)]
+pub struct Outcome {
+    pub number: u32,
+    pub side: [u8; SIDE_BYTES],
+    pub report: [u8; REPORT_BYTES],
+}
+
+impl Outcome {
+    /// A number with both areas as they were, all zeros.
+    pub fn unwritten(number: u32) -> Outcome {
+        Outcome { number, side: [0; SIDE_BYTES], report: [0; REPORT_BYTES] }
+    }
+}
+
+/// The lightest candidate so far; a single link stands in both places. The side has one mark a node, 0 or 1.
+pub struct Found {
+    pub tree: u8,
+    pub first: u16,
+    pub second: u16,
+    pub weight: u64,
+    pub side: Vec<u8>,
+}
+
+/// The outcome of a sheet whose first candidate is the one found.
+pub fn accepted(sheet: &Sheet, found: &Found) -> Outcome {
+    let mut outcome = Outcome::unwritten(0);
+    let floor = floor(sheet, found.weight);
+    write_side(&mut outcome.side, &found.side);
+    write_report(&mut outcome.report, found, floor);
+    outcome
+}
+
+fn floor(sheet: &Sheet, weight: u64) -> u64 {
+    let loads = loads(sheet);
+    if sheet.links.iter().zip(&loads).any(|(l, &load)| load > l.weight as u64) {
+        return 0;
+    }
+    let shares: u64 = sheet.trees.iter().map(|tree| tree.share as u64).sum();
+    weight.min(3 * shares)
+}
+
+fn loads(sheet: &Sheet) -> Vec<u64> {
+    let mut loads = vec![0; sheet.links.len()];
+    for tree in &sheet.trees {
+        for (k, load) in loads.iter_mut().enumerate() {
+            if bit_set(tree.map, k) {
+                *load += tree.share as u64;
+            }
+        }
+    }
+    loads
+}
+
+fn write_side(area: &mut [u8], side: &[u8]) {
+    for (byte, marks) in area.iter_mut().zip(side.chunks(8)) {
+        *byte = marks.iter().enumerate().map(|(bit, mark)| mark << bit).sum();
+    }
+}
+
+fn write_report(area: &mut [u8], found: &Found, floor: u64) {
+    let count: u16 = found.side.iter().map(|&mark| mark as u16).sum();
+    let second = if found.first == found.second { NO_SECOND } else { found.second };
+    area[0] = if floor == found.weight { 2 } else { 1 };
+    area[1] = found.tree;
+    area[2..4].copy_from_slice(&count.to_le_bytes());
+    area[4..6].copy_from_slice(&found.first.to_le_bytes());
+    area[6..8].copy_from_slice(&second.to_le_bytes());
+    area[8..12].copy_from_slice(&(found.weight as u32).to_le_bytes());
+    area[12..16].copy_from_slice(&(floor as u32).to_le_bytes());
+}
