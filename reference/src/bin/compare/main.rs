@@ -5,6 +5,7 @@ mod inputs;
 mod judge;
 mod networks;
 mod program;
+mod shapes;
 mod sheets;
 mod soak;
 
@@ -65,7 +66,8 @@ fn fixed_share(judge: &mut Judge, random: &mut Random) -> Judged {
     inputs::long_inputs(judge, random)?;
     inputs::short_reads(judge, random)?;
     networks::of_every_feature(judge, random, &Counts { small: 800, middle: 100, large: 8 })?;
-    networks::at_the_limits(judge, random)
+    networks::at_the_limits(judge, random)?;
+    shapes::of_every_kind(judge, random, 400)
 }
 
 fn print_table(judge: &Judge) {

@@ -40,26 +40,26 @@ pub fn of_every_feature(judge: &mut Judge, random: &mut Random, counts: &Counts)
 pub fn small(judge: &mut Judge, random: &mut Random, feature: Feature) -> Judged {
     let size = generate::random_size(random, 2, every_side::MOST_NODES, feature);
     let through = judge.both_once_in(2);
-    judged(judge, random, size, feature, through)
+    of_feature(judge, random, size, feature, through)
 }
 
 pub fn middle(judge: &mut Judge, random: &mut Random, feature: Feature) -> Judged {
     let size = generate::random_size(random, MIDDLE_NODES, LARGE_NODES - 1, feature);
-    judged(judge, random, size, feature, Through::Both)
+    of_feature(judge, random, size, feature, Through::Both)
 }
 
 /// A network of many nodes; of few trees, since the reference takes long for many.
 pub fn large(judge: &mut Judge, random: &mut Random, feature: Feature) -> Judged {
     let mut size = generate::random_size(random, LARGE_NODES, MOST_NODES, feature);
     size.trees = size.trees.min(3);
-    judged(judge, random, size, feature, Through::Both)
+    of_feature(judge, random, size, feature, Through::Both)
 }
 
 /// Networks with as many nodes, links and trees as there may be, or as few, in many combinations.
 pub fn at_the_limits(judge: &mut Judge, random: &mut Random) -> Judged {
     judge.kind("networks: at the limits of size");
     for (size, feature) in limits() {
-        judged(judge, random, size, feature, Through::Both)?;
+        of_feature(judge, random, size, feature, Through::Both)?;
     }
     Ok(())
 }
@@ -86,21 +86,26 @@ fn limits() -> Vec<(Size, Feature)> {
     limits
 }
 
-fn judged(judge: &mut Judge, random: &mut Random, size: Size, feature: Feature, through: Through) -> Judged {
+fn of_feature(judge: &mut Judge, random: &mut Random, size: Size, feature: Feature, through: Through) -> Judged {
     let network = generate::network(random, size, feature);
-    let shortest = sheet::write(&network);
+    judged(judge, random, &network, through)
+}
+
+/// The network's sheet, not always the shortest, has the reference's answer.
+pub fn judged(judge: &mut Judge, random: &mut Random, network: &Network, through: Through) -> Judged {
+    let shortest = sheet::write(network);
     let sheet = match random.once_in(3) {
-        true => sheet::write_with_maps(&network, &generate::longer_maps(random, &network.links)),
+        true => sheet::write_with_maps(network, &generate::longer_maps(random, &network.links)),
         false => shortest.clone(),
     };
     judge.longer += u64::from(sheet != shortest);
-    let answer = cuts::answer(&network);
+    let answer = cuts::answer(network);
     let read = sheet::read(&sheet);
-    if read.as_ref() != Ok(&network) {
+    if read.as_ref() != Ok(network) {
         return judge.differs(&sheet, format!("{network:?}\n"), format!("{read:?}, by the reference's reader\n"));
     }
     if network.nodes <= every_side::MOST_NODES {
-        by_every_side(judge, &network, &sheet, &answer)?;
+        by_every_side(judge, network, &sheet, &answer)?;
     }
     judge.expect(&sheet, &Ok(answer), through)
 }

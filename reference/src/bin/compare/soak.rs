@@ -5,7 +5,7 @@ use reference::generate::FEATURES;
 use reference::random::Random;
 
 use crate::judge::{Judge, Judged, Through};
-use crate::{networks, sheets};
+use crate::{networks, shapes, sheets};
 
 /// How many cases go by between two notes of progress.
 const CASES_PER_NOTE: u64 = 10_000;
@@ -14,7 +14,8 @@ const CASES_PER_NOTE: u64 = 10_000;
 pub fn run(judge: &mut Judge, random: &mut Random, cases: u64) -> Judged {
     for case in 1..=cases {
         match random.below(100) {
-            0..50 => network(judge, random)?,
+            0..35 => network(judge, random)?,
+            35..50 => shaped(judge, random)?,
             50..65 => single_fault(judge, random)?,
             65..80 => two_faults(judge, random)?,
             80..88 => cut(judge, random)?,
@@ -34,6 +35,15 @@ fn network(judge: &mut Judge, random: &mut Random) -> Judged {
         0..75 => networks::small(judge, random, feature),
         75..99 => networks::middle(judge, random, feature),
         _ => networks::large(judge, random, feature),
+    }
+}
+
+fn shaped(judge: &mut Judge, random: &mut Random) -> Judged {
+    let kind = random.pick(&shapes::kinds());
+    judge.kind(&shapes::kind_name(kind));
+    match random.below(100) {
+        0..98 => shapes::small(judge, random, kind),
+        _ => shapes::large(judge, random, kind),
     }
 }
 
