@@ -61,7 +61,7 @@ unfolding weightOf sideOf
 weightOf-is net t (one e) = refl
 weightOf-is net t (two e f) = pairWeight-is net (below net t e) (below net t f)
 
-sharedWeight-most : (net : Network) (r s : Side) → (sharedWeight net r s ≤ cutWeight net r) × (sharedWeight net r s ≤ cutWeight net s)
+pub sharedWeight-most : (net : Network) (r s : Side) → (sharedWeight net r s ≤ cutWeight net r) × (sharedWeight net r s ≤ cutWeight net s)
 unfolding sharedWeight cutWeight
 sharedWeight-most net r s = (
   sum-mono (linkCount net) _ _ (λ k _. left (crosses net r k) (crosses net s k) (linkAt net k .weight)),

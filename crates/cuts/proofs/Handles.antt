@@ -61,7 +61,7 @@ named-of (x ∷ es) u h m = go (named-of es (u .1) h) (List·Memᴰ·cases-cons 
     go r (inr i) = deeper r (List·Memᴰ·append-cases (pairsWith x es) i)
 
 -- the handles stand in that order
-handles-order : (es : List ℕ) → Rising es → Each Sooner (handles es)
+pub handles-order : (es : List ℕ) → Rising es → Each Sooner (handles es)
 unfolding handles
 handles-order [] u = tt
 handles-order (x ∷ es) u = (

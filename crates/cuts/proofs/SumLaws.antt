@@ -80,6 +80,22 @@ unfolding sumTo
 sum-const zero c = omega arith
 sum-const (suc n) c = let r = sum-const n c in omega arith
 
+pub sum-zero : (n : ℕ) (f : ℕ → ℕ) → ((k : ℕ) → k < n → f k ≡ 0) → sumTo n f ≡ 0
+sum-zero n f h = let a = sum-congr n f (λ k. 0) h in let b = sum-const n 0 in omega arith
+
+pub sum-only : (n : ℕ) (c : Bool) (f : ℕ → ℕ) → sumTo n (λ k. only c (f k)) ≡ only c (sumTo n f)
+sum-only n true f = refl
+sum-only n false f = sum-zero n (λ k. 0) (λ _ _. refl)
+
+pub sum-prefix : (k m : ℕ) (f : ℕ → ℕ) → k ≤ m → sumTo k f ≤ sumTo m f
+unfolding sumTo
+sum-prefix k zero f b = let q : k ≡ 0 = omega arith in rw q (omega arith)
+sum-prefix k (suc m) f b = go (sum-prefix k m f) (eq-or-lt-of-le b)
+  where
+    go : (k ≤ m → sumTo k f ≤ sumTo m f) → (k ≡ suc m) ⊎ (k < suc m) → sumTo k f ≤ sumTo m f + f m
+    go r (inl q) = rw q (omega arith)
+    go r (inr l) = let a = r (omega arith) in omega arith
+
 pub sum-swap : (n m : ℕ) (f : ℕ → ℕ → ℕ) → sumTo n (λ i. sumTo m (f i)) ≡ sumTo m (λ j. sumTo n (λ i. f i j))
 unfolding sumTo
 sum-swap zero m f = let r = sum-const m 0 in omega arith
