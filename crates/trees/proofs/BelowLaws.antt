@@ -69,11 +69,11 @@ module _ {net : Network} {t : Tree} {order parents uplinks : List ℕ} {e : ℕ}
             = λ h. let j = o .listed .once i (here .at) (omega arith) u (p ∙ link-once o x v k z b f (h ∙ sym q) ∙ sym (here .is)) in omega arith in
             below-turn x k z ∙ rw (ne-eqb (entry uplinks x) e w, r (d .up) (omega arith) (d .up-is))
 
-    below-parent : flag (below net t e) (entry parents v) ≡ false
+    pub below-parent : flag (below net t e) (entry parents v) ≡ false
     below-parent = below-before (entry parents v) (parent-in o v b f) (here .up) (here .up-before) (here .up-is)
 
   -- the law of a walk along the order
-  below-law : (x : ℕ) → x < net .nodes → (x ≡ 0 → ⊥) → flag (below net t e) x ≡ (eqb (entry uplinks x) e || flag (below net t e) (entry parents x))
+  pub below-law : (x : ℕ) → x < net .nodes → (x ≡ 0 → ⊥) → flag (below net t e) x ≡ (eqb (entry uplinks x) e || flag (below net t e) (entry parents x))
   below-law x b f = below-turn x b f ∙ xor-or _ _ (λ q. below-parent b f (eqb-true (entry uplinks x) e q))
 
   pub marking-start : (i : ℕ) (s : List ℕ) → i ≤ 1 → ((x : ℕ) → x < 256 → entry s x ≡ 0) → Marking net t order e i s

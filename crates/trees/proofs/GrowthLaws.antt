@@ -41,7 +41,7 @@ pub record Growing (net : Network) (t : Tree) (reached order parents uplinks : L
   pub found : (x : ℕ) → x < net .nodes → marked reached x ≡ true → (i : ℕ) × (i < count) × (entry order i ≡ x)
 
 -- no member has exactly one end reached
-abbrev Quiet : Network → Tree → List ℕ → Type 0
+abbrev pub Quiet : Network → Tree → List ℕ → Type 0
 Quiet net t reached = (k : ℕ) → Member net t k → marked reached (linkAt net k .first) ≡ marked reached (linkAt net k .second)
 
 module _ {net : Network} {t : Tree} (l : Linked net) where
@@ -152,7 +152,7 @@ module _ {net : Network} {t : Tree} (l : Linked net) where
             (λ i b z. tied-old i z b) (λ z. tied-new) i b z;
       }
 
-      growing-step : Growing net t (set reached x 1) (set order count x) (set parents x p) (set uplinks x k) (suc count)
+      pub growing-step : Growing net t (set reached x 1) (set order count x) (set parents x p) (set uplinks x k) (suc count)
       growing-step = record {
         reached-room = rw (length-set reached x 1) (w .reached-room);
         order-room = rw (length-set order count x) (w .order-room);
@@ -174,7 +174,7 @@ module _ {net : Network} {t : Tree} (l : Linked net) where
               let d = w .found y b (sym (mark-old y (λ z. eqb-false x y q (sym z))) ∙ i) in
               (d .0, omega (arith, d .1), old (d .0) (d .1) ∙ d .2)
 
-    growing-stuck : Quiet net t reached → count < net .nodes → spans net t ≡ false
+    pub growing-stuck : Quiet net t reached → count < net .nodes → spans net t ≡ false
     unfolding spans
     growing-stuck h b = go (truth (spans net t))
       where
@@ -189,7 +189,7 @@ module _ {net : Network} {t : Tree} (l : Linked net) where
             absurd (omega arith)
 
 -- all nodes
-growing-done : {net : Network} {t : Tree} {reached order parents uplinks : List ℕ} {count : ℕ} → Growing net t reached order parents uplinks count
+pub growing-done : {net : Network} {t : Tree} {reached order parents uplinks : List ℕ} {count : ℕ} → Growing net t reached order parents uplinks count
     → count ≡ net .nodes → Ordered net t order parents uplinks
 growing-done {net} {t} {reached} {order} {parents} {uplinks} {count} w e = record {
   listed = subst (λ (c : ℕ). Listed net t order parents uplinks c) e (w .listed);

@@ -4,9 +4,11 @@
 --   hanging x p k               the answer that node x hangs by the link k on node p
 --   nextIn r fs ss ks           of the links ks, whose ends stand in fs and ss, the first with exactly one end marked in r: the
 --                               end that is not, as the node that hangs by the link on the other
+--   EndArrays es                es has two arrays of 2,048 numbers, for the first ends and the second ends of links
 --   Held net fs ss n            the arrays hold the network: its links' first ends in fs, their second ends in ss, all of them nodes,
 --                               of which there are n, the root among them
---   Given net t fs ss ms c n    so they do, and the first c numbers of ms are the tree's members, rising
+--   Laid net fs ss ws n m       so they do, there are m links, and ws has their weights
+--   Given net t fs ss ms c n    they hold its links' ends, and the first c numbers of ms are the tree's members, rising
 --   GrownTree net t o p l all   what growing the tree gives: `all` says whether its members join every node to the root; if so,
 --                               o, p and l order its nodes, and a tree with one member fewer than nodes has each member as the
 --                               parent link of exactly one node
@@ -14,12 +16,12 @@ use Prim.Native.Nat.{ℕ, _-_, _<_}
 use mathlib.Core.Path.{_≡_}
 use mathlib.Core.Bool.{Bool, true, cond}
 use mathlib.Core.List.{List, [], _∷_}
-use lib.ListN.{take}
+use lib.ListN.{length, take}
 use lib.Dec.{eqb}
 use Rattle.cuts.specs.Network.{Tree, Network, Linked, linkAt, linkCount}
 use Rattle.cuts.specs.Tree.{memberCount, spans}
 use Rattle.cuts.specs.Candidate.{memberLinks}
-use Rattle.trees.specs.Order.{entry, Ordered, Owned}
+use Rattle.trees.specs.Order.{entry, part, Ordered, Owned}
 use Rattle.trees.specs.declared.Next.{Next}
 use Rattle.trees.specs.declared.Next.the-variants.{Hangs, Nothing}
 
@@ -39,11 +41,21 @@ nextIn r fs ss (k ∷ ks) =
     (cond (marked r (entry ss k)) (nextIn r fs ss ks) (hanging (entry ss k) (entry fs k) k))
     (cond (marked r (entry ss k)) (hanging (entry fs k) (entry ss k) k) (nextIn r fs ss ks))
 
+pub record EndArrays (ends : List (List ℕ)) : Type 0 where
+  pub both : length ends ≡ 2
+  pub firsts : length (part ends 0) ≡ 2_048
+  pub seconds : length (part ends 1) ≡ 2_048
+
 pub record Held (net : Network) (fs ss : List ℕ) (nodes : ℕ) : Type 0 where
   pub linked : Linked net
   pub sized : net .nodes ≡ nodes
   pub firsts : (k : ℕ) → k < linkCount net → linkAt net k .first ≡ entry fs k
   pub seconds : (k : ℕ) → k < linkCount net → linkAt net k .second ≡ entry ss k
+
+pub record Laid (net : Network) (fs ss ws : List ℕ) (nodes links : ℕ) : Type 0 where
+  pub held : Held net fs ss nodes
+  pub counted : linkCount net ≡ links
+  pub weights : (k : ℕ) → k < linkCount net → linkAt net k .weight ≡ entry ws k
 
 pub record Given (net : Network) (t : Tree) (fs ss ms : List ℕ) (count nodes : ℕ) : Type 0 where
   pub held : Held net fs ss nodes
