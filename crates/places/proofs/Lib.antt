@@ -1,0 +1,9 @@
+pub mod SmallLaws
+pub mod SubtreeLaws
+pub mod SizeLaws
+pub mod HeavyLaws
+pub mod PreorderLaws
+pub mod ShiftLaws
+pub mod PlaceLaws
+pub mod NestLaws
+pub mod KeptLaws
