@@ -1,0 +1,13 @@
+pub mod OverLaws
+pub mod Laminar
+pub mod StopLaws
+pub mod CrossLaws
+pub mod PairLaws
+pub mod RunLaws
+pub mod DegreeLaws
+pub mod WrapLaws
+pub mod AddLaws
+pub mod PartLaws
+pub mod SumLaws
+pub mod RowLaws
+pub mod Cases
