@@ -1,16 +1,16 @@
 -- What the report has of a cut that was found: its fields are those of the answer that the cut is the candidate of. Assumes nothing.
 use Prim.Native.Nat.{ℕ}
 use mathlib.Core.Path.{_≡_, sym, ap, _∙_}
-use mathlib.Core.List.{List, [], _∷_}
+use mathlib.Core.List.{[], _∷_}
 use lib.Dec.{eqb}
 use Rattle.cuts.specs.Answer.{Answer}
 use Rattle.sheet.specs.Bytes.{fieldBytes}
 use Rattle.sheet.specs.Areas.{reportWidths, firstLink, secondLink, reportBytes}
 use Rattle.sheet.proofs.AreaLaws.{firstLink-cond}
-use Rattle.search.specs.Found.{Says, chosen}
-use Rattle.search.specs.declared.Found.{Found}
+use Rattle.choice.specs.Choice.{Says, chosen}
+use Rattle.choice.specs.declared.Found.{Found}
 
-module _ (found : Found) (part : List ℕ) (a : Answer) (says : Says found part (a .best)) where
+module _ (found : Found) (a : Answer) (says : Says found (a .best)) where
   pub report-fields : (v n s f : ℕ) → a .verdict ≡ v → a .count ≡ n → s ≡ secondLink (chosen (found .first) (found .second)) → a .floor ≡ f
       → fieldBytes reportWidths (v ∷ found .tree ∷ n ∷ found .first ∷ s ∷ found .weight ∷ f ∷ []) ≡ reportBytes a
   unfolding reportBytes

@@ -77,11 +77,6 @@ sharedWeight-most net r s = (
     right true q x = omega arith
     right false q x = omega arith
 
--- two sides weigh together no less than they are apart
-pub pairWeight-apart : (net : Network) (r s : Side) → (cutWeight net r - cutWeight net s) + (cutWeight net s - cutWeight net r) ≤ pairWeight net r s
-unfolding pairWeight
-pairWeight-apart net r s = let h = sharedWeight-most net r s in omega (arith, h .0, h .1)
-
 -- no cut weighs more than all links at the largest weight
 pub cutWeight-most : (net : Network) (w : ℕ) → ((k : ℕ) → k < linkCount net → linkAt net k .weight ≤ w) → (s : Side) → cutWeight net s ≤ linkCount net * w
 unfolding cutWeight

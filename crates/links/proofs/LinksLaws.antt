@@ -1,7 +1,7 @@
 -- Links read one after another into arrays: what the arrays hold is what `records` has read so far.
 -- Assumes nothing.
 use Prim.Native.Nat.{ℕ, _+_, _-_, _≤_, _<_}
-use mathlib.Core.Path.{_≡_, sym, _∙_}
+use mathlib.Core.Path.{_≡_, sym, ap, ap₂, _∙_}
 use mathlib.Core.List.{List, [], _∷_, _++_}
 use native.Mathlib.Omega.{arith}
 use native.Mathlib.Numerals.{add-one}
@@ -11,6 +11,8 @@ use lib.Dec.{eqb}
 use Rattle.cuts.specs.Sums.{table}
 use Rattle.cuts.specs.Network.{Link, noLink}
 use Rattle.cuts.proofs.SumLaws.{table-length, table-congr, table-at}
+use Rattle.trees.specs.Order.{part}
+use Rattle.trees.specs.Growing.{EndArrays}
 use Rattle.sheet.specs.Bytes.{Bytes}
 use Rattle.sheet.specs.Reading.{accepted, refused, records}
 use Rattle.sheet.specs.Sheet.{base, linkRecord, nextLink}
@@ -43,23 +45,49 @@ linksOf-set k a b w fs ss ws p q r =
           (λ i c. rw (getD-set-other fs k i a 0 (λ q. omega arith), getD-set-other ss k i b 0 (λ q. omega arith), getD-set-other ws k i w 0 (λ q. omega arith))),
     )
 
+-- the ends a and b of link k, each in its array
+abbrev pub putEnds : List (List ℕ) → ℕ → ℕ → ℕ → List (List ℕ)
+putEnds ends k a b = set (set ends 0 (set (part ends 0) k a)) 1 (set (part (set ends 0 (set (part ends 0) k a)) 1) k b)
+
+module _ (ends : List (List ℕ)) (k a b : ℕ) (e : EndArrays ends) where
+  firsts-put : part (putEnds ends k a b) 0 ≡ set (part ends 0) k a
+  firsts-put =
+      let n = e .both in
+      getD-set-other (set ends 0 (set (part ends 0) k a)) 1 0 _ [] (λ q. omega arith) ∙ getD-set-same ends 0 (set (part ends 0) k a) [] (omega arith)
+
+  seconds-put : part (putEnds ends k a b) 1 ≡ set (part ends 1) k b
+  seconds-put =
+      let n = e .both in
+      getD-set-same (set ends 0 (set (part ends 0) k a)) 1 _ [] (let l = length-set ends 0 (set (part ends 0) k a) in omega arith)
+      ∙ ap (λ (xs : List ℕ). set xs k b) (getD-set-other ends 0 1 (set (part ends 0) k a) [] (λ q. omega arith))
+
+  arrays-put : EndArrays (putEnds ends k a b)
+  arrays-put = record {
+    both = length-set (set ends 0 (set (part ends 0) k a)) 1 _ ∙ length-set ends 0 (set (part ends 0) k a) ∙ e .both;
+    firsts = ap length firsts-put ∙ length-set (part ends 0) k a ∙ e .firsts;
+    seconds = ap length seconds-put ∙ length-set (part ends 1) k b ∙ e .seconds;
+  }
+
 -- after k links, of `count` from the position `from` on: `at` is the position behind them, and l the last of them
-pub record LinksRun (s : Bytes) (from nodes count : ℕ) (sizes : ℕ × ℕ × ℕ) (fs ss ws : List ℕ) (at : ℕ) (l : link.Link) (k : ℕ) : Type 0 where
-  pub run : Run (nextLink base nodes) count k (linksOf k fs ss ws) (drop at s) (drop from s)
-  pub last : linkOf l ≡ getD (linksOf k fs ss ws) (k - 1) noLink
+pub record LinksRun (s : Bytes) (from nodes count : ℕ) (ends : List (List ℕ)) (ws : List ℕ) (at : ℕ) (l : link.Link) (k : ℕ) : Type 0 where
+  pub run : Run (nextLink base nodes) count k (linksOf k (part ends 0) (part ends 1) ws) (drop at s) (drop from s)
+  pub last : linkOf l ≡ getD (linksOf k (part ends 0) (part ends 1) ws) (k - 1) noLink
   pub inside : at ≤ length s
   pub within : k ≤ count
   pub few : nodes ≤ 256
-  pub firsts : length fs ≡ sizes .0
-  pub seconds : length ss ≡ sizes .1
-  pub weights : length ws ≡ sizes .2
-  pub room : (count ≤ sizes .0) × (count ≤ sizes .1) × (count ≤ sizes .2)
+  pub arrays : EndArrays ends
+  pub weights : length ws ≡ 2_048
+  pub room : count ≤ 2_048
 
-module _ {s : Bytes} {from nodes count : ℕ} {sizes : ℕ × ℕ × ℕ} {fs ss ws : List ℕ} {at : ℕ} {l : link.Link} {k : ℕ}
-    (w : LinksRun s from nodes count sizes fs ss ws at l k) where
+module _ {s : Bytes} {from nodes count : ℕ} {ends : List (List ℕ)} {ws : List ℕ} {at : ℕ} {l : link.Link} {k : ℕ}
+    (w : LinksRun s from nodes count ends ws at l k) where
+  -- the links read so far
+  abbrev got : List Link
+  got = linksOf k (part ends 0) (part ends 1) ws
+
   -- what is read next is the next link
-  next-is : nextLink base nodes (linksOf k fs ss ws) (drop at s) ≡ linkRecord base nodes (eqb k 0) (linkOf l) (drop at s)
-  next-is = rw (linksOf-length k fs ss ws, ← w .last)
+  next-is : nextLink base nodes got (drop at s) ≡ linkRecord base nodes (eqb k 0) (linkOf l) (drop at s)
+  next-is = rw (linksOf-length k (part ends 0) (part ends 1) ws, ← w .last)
 
   module _ (more : k < count) where
     pub links-stop : (n : ℕ) → refused n ≡ linkRecord base nodes (eqb k 0) (linkOf l) (drop at s) → refused n ≡ records (nextLink base nodes) count [] (drop from s)
@@ -67,27 +95,27 @@ module _ {s : Bytes} {from nodes count : ℕ} {sizes : ℕ × ℕ × ℕ} {fs ss
 
     module _ (next : link.Link) (end : ℕ) (e : accepted (linkOf next) (drop end s) ≡ linkRecord base nodes (eqb k 0) (linkOf l) (drop at s)) where
       pub next-good : GoodLink base nodes (linkOf next)
-      next-good = good-link base nodes (linksOf k fs ss ws) (drop at s) (linkOf next) (drop end s) (next-is ∙ sym e)
+      next-good = good-link base nodes got (drop at s) (linkOf next) (drop end s) (next-is ∙ sym e)
 
-      pub links-more : end ≤ length s
-          → LinksRun s from nodes count sizes (set fs k (next .first)) (set ss k (next .second)) (set ws k (next .weight)) end next (k + 1)
+      pub links-more : end ≤ length s → LinksRun s from nodes count (putEnds ends k (next .first) (next .second)) (set ws k (next .weight)) end next (k + 1)
       links-more i =
           let r = w .room in
           let held =
-          linksOf-set k (next .first) (next .second) (next .weight) fs ss ws (omega (arith, w .firsts, r .0)) (omega (arith, w .seconds, r .1))
-          (omega (arith, w .weights, r .2)) in
+          linksOf-set k (next .first) (next .second) (next .weight) (part ends 0) (part ends 1) ws (omega (arith, w .arrays .firsts)) (omega (arith, w .arrays .seconds))
+          (omega (arith, w .weights)) in
+          let same = ap₂ (λ (fs : List ℕ) (ss : List ℕ). linksOf (k + 1) fs ss (set ws k (next .weight)))
+          (firsts-put ends k (next .first) (next .second) (w .arrays)) (seconds-put ends k (next .first) (next .second) (w .arrays)) ∙ held in
           let place : k + 1 - 1 ≡ k = omega arith in
           record {
-            run = rw held (run-more (w .run) more (next-is ∙ sym e));
-            last = rw (held, place) (sym (getD-at (linksOf k fs ss ws) (linkOf next) [] noLink k (linksOf-length k fs ss ws)));
+            run = rw same (run-more (w .run) more (next-is ∙ sym e));
+            last = rw (same, place) (sym (getD-at got (linkOf next) [] noLink k (linksOf-length k (part ends 0) (part ends 1) ws)));
             inside = i;
             within = omega arith;
             few = w .few;
-            firsts = length-set fs k (next .first) ∙ w .firsts;
-            seconds = length-set ss k (next .second) ∙ w .seconds;
+            arrays = arrays-put ends k (next .first) (next .second) (w .arrays);
             weights = length-set ws k (next .weight) ∙ w .weights;
             room = r;
           }
 
-  pub links-done : k ≡ count → accepted (linksOf count fs ss ws) (drop at s) ≡ records (nextLink base nodes) count [] (drop from s)
+  pub links-done : k ≡ count → accepted (linksOf count (part ends 0) (part ends 1) ws) (drop at s) ≡ records (nextLink base nodes) count [] (drop from s)
   links-done e = rw e at (run-done (w .run) e)

@@ -10,6 +10,8 @@ ghost use Prim.Native.Nat.{_+_, _*_, _≤_};
 ghost use lib.Dec.{eqb};
 ghost use lib.ListN.{length, drop};
 ghost use Rattle.sheet.specs.Bytes.{number};
+ghost use Rattle.trees.specs.Order.{part};
+ghost use Rattle.trees.specs.Growing.{EndArrays};
 ghost use Rattle.sheet.specs.Reading.{firstFailing, records};
 ghost use Rattle.sheet.specs.Sheet.{base, recordLength, linkIn, shapeChecks, valueChecks, linkRecord, nextLink};
 ghost use Rattle.records.specs.Answers.{stepNumber, stepSays, EndsAt, Inside};
@@ -141,21 +143,19 @@ fn read_link(s: &[u8], at: usize, nodes: usize, start: bool, before: Link) -> Re
     }
 }
 
-// The links of `count` records from a position on, into the arrays.
+// The links of `count` records from a position on, into the arrays: their first ends, their second ends and their weights.
 pub fn read_links(
     s: &[u8],
     from: usize,
     nodes: usize,
     count: usize,
-    firsts: &mut [u8],
-    seconds: &mut [u8],
+    ends: &mut [[u8; 2048]; 2],
     weights: &mut [u32],
 ) -> Step
-    requires { ⌜ (from ≤ length (now s)) × (nodes ≤ 256) ⌝ }
-    requires { ⌜ (count ≤ length (now firsts)) × (count ≤ length (now seconds)) × (count ≤ length (now weights)) ⌝ }
-    ensures { λ r. ⌜ stepSays (linksOf count (now (firsts .exit)) (now (seconds .exit)) (now (weights .exit))) (now (s .entry)) r
+    requires { ⌜ (from ≤ length (now s)) × (nodes ≤ 256) × (count ≤ 2048) × EndArrays (now ends) × (length (now weights) ≡ 2048) ⌝ }
+    ensures { λ r. ⌜ stepSays (linksOf count (part (now (ends .exit)) 0) (part (now (ends .exit)) 1) (now (weights .exit))) (now (s .entry)) r
         ≡ records (nextLink base nodes) count [] (drop from (now (s .entry))) ⌝ }
-    ensures { λ r. ⌜ Inside (now (s .entry)) r ⌝ }
+    ensures { λ r. ⌜ Inside (now (s .entry)) r × EndArrays (now (ends .exit)) ⌝ }
 {
     let mut at = from;
     let mut link = Link {
@@ -167,8 +167,8 @@ pub fn read_links(
     while k < count {
         match read_link(s, at, nodes, k == 0, link) {
             Record::Read(l, end) => {
-                firsts[k] = l.first as u8;
-                seconds[k] = l.second as u8;
+                ends[0][k] = l.first as u8;
+                ends[1][k] = l.second as u8;
                 weights[k] = l.weight;
                 link = l;
                 at = end;

@@ -8,9 +8,9 @@ use records::refusals;
 ghost use mathlib.Core.Path.{_≡_};
 ghost use Prim.Native.Nat.{_≤_};
 ghost use lib.ListN.{length};
+ghost use Rattle.trees.specs.Growing.{EndArrays};
 ghost use Rattle.sheet.specs.Reading.{numberOf};
 ghost use Rattle.sheet.specs.Sheet.{base, decode};
-ghost use Rattle.reader.specs.Answers.{TreeArrays};
 ghost use Rattle.monitor.specs.Entry.{sideLeft, reportLeft, Reported};
 
 // Reads the sheet and answers it, in work arrays that are lent.
@@ -18,52 +18,16 @@ fn report_in(
     sheet: &[u8],
     side: &mut [u8],
     report: &mut [u8],
-    firsts: &mut [u8],
-    seconds: &mut [u8],
+    ends: &mut [[u8; 2048]; 2],
     weights: &mut [u32],
-    loads: &mut [u64],
-    singles: &mut [u64],
-    members: &mut [u16],
-    work: &mut [u8],
-    order: &mut [u8],
-    parents: &mut [u8],
-    uplinks: &mut [u16],
 ) -> u32
-    requires { ⌜ (32 ≤ length (now side)) × (16 ≤ length (now report)) ⌝ }
-    requires { ⌜ (length (now firsts) ≡ 2048) × (length (now seconds) ≡ 2048) × (length (now weights) ≡ 2048) × (length (now loads) ≡ 2048) × (length (now singles) ≡ 256) × (length (now work) ≡ 768) ⌝ }
-    requires { ⌜ TreeArrays (now members) (now work) (now order) (now parents) (now uplinks) ⌝ }
+    requires { ⌜ (32 ≤ length (now side)) × (16 ≤ length (now report)) × EndArrays (now ends) × (length (now weights) ≡ 2048) ⌝ }
     ensures { λ r. ⌜ (r ≡ numberOf (decode base (now (sheet .entry)))) × (now (side .exit) ≡ sideLeft (now (side .entry)) (decode base (now (sheet .entry))))
         × (now (report .exit) ≡ reportLeft (now (report .entry)) (decode base (now (sheet .entry)))) ⌝ }
 {
-    match read_sheet(
-        sheet,
-        firsts,
-        seconds,
-        weights,
-        members,
-        work,
-        order,
-        parents,
-        uplinks,
-    ) {
+    match read_sheet(sheet, ends, weights) {
         Outcome::Read(c, at) => {
-            write_answer(
-                sheet,
-                c,
-                at,
-                side,
-                report,
-                firsts,
-                seconds,
-                weights,
-                loads,
-                singles,
-                members,
-                work,
-                order,
-                parents,
-                uplinks,
-            );
+            write_answer(sheet, c, at, side, report, ends, weights);
             0
         }
         Outcome::Refused(n) => n,
@@ -82,29 +46,7 @@ pub extern "C" fn wcut_report(sheet: &[u8], side: &mut [u8], report: &mut [u8]) 
     if report.len() < REPORT_LENGTH {
         return refusals::SHORT_REPORT;
     }
-    let mut firsts = [0u8; 2048];
-    let mut seconds = [0u8; 2048];
+    let mut ends = [[0u8; 2048]; 2];
     let mut weights = [0u32; 2048];
-    let mut loads = [0u64; 2048];
-    let mut singles = [0u64; 256];
-    let mut members = [0u16; 256];
-    let mut work = [0u8; 768];
-    let mut order = [0u8; 256];
-    let mut parents = [0u8; 256];
-    let mut uplinks = [0u16; 256];
-    report_in(
-        sheet,
-        side,
-        report,
-        &mut firsts,
-        &mut seconds,
-        &mut weights,
-        &mut loads,
-        &mut singles,
-        &mut members,
-        &mut work,
-        &mut order,
-        &mut parents,
-        &mut uplinks,
-    )
+    report_in(sheet, side, report, &mut ends, &mut weights)
 }

@@ -15,17 +15,6 @@ ghost use Rattle.sheet.specs.Bytes.{mapBit};
 ghost use Rattle.sheet.specs.Sheet.{treeLength};
 ghost use Rattle.reader.specs.Answers.{treesFrom};
 
-// No link bears a load.
-fn clear_loads(loads: &mut [u64])
-    ensures { λ _. ⌜ now (loads .exit) ≡ replicate (length (now (loads .entry))) 0 ⌝ }
-{
-    let mut k = 0;
-    while k < loads.len() {
-        loads[k] = 0;
-        k += 1;
-    }
-}
-
 // Adds a tree's share to the load of each of its members. 137,438,953,472 is 2^37: 32 shares of four bytes are below it.
 fn add_share(loads: &mut [u64], map: &[u8], links: usize, share: u32)
     requires { ⌜ (links ≤ 8 * length (now map)) × (links ≤ length (now loads)) × ((k : ℕ) → entry (now loads) k ≤ 137_438_953_472) ⌝ }
@@ -41,14 +30,13 @@ fn add_share(loads: &mut [u64], map: &[u8], links: usize, share: u32)
     }
 }
 
-// Works out each link's load from the tree records at a position, and answers the sum of their shares.
+// Works out each link's load from the tree records at a position, where no link has any yet, and answers the sum of their shares.
 fn load_links(s: &[u8], at: usize, links: usize, trees: usize, loads: &mut [u64]) -> u64
-    requires { ⌜ (at + trees * treeLength links ≤ length (now s)) × (links ≤ 2048) × (trees ≤ 32) × (length (now loads) ≡ 2048) ⌝ }
+    requires { ⌜ (at + trees * treeLength links ≤ length (now s)) × (links ≤ 2048) × (trees ≤ 32) × (now loads ≡ replicate 2048 0) ⌝ }
     ensures { λ r. ⌜ ((net : Network) → linkCount net ≡ links → (k : ℕ) → k < links → entry (now (loads .exit)) k ≡ load (treesFrom net trees (drop at (now (s .entry)))) k) ⌝ }
     ensures { λ r. ⌜ ((net : Network) → linkCount net ≡ links → r ≡ shares (treesFrom net trees (drop at (now (s .entry))))) ⌝ }
     ensures { λ r. ⌜ r ≤ 137_438_953_472 ⌝ }
 {
-    clear_loads(loads);
     let size = (links + 7) / 8;
     let mut sum: u64 = 0;
     let mut place = at;
@@ -93,22 +81,15 @@ fn floor(over: bool, weight: u64, shares: u64) -> u64
     if weight < bound { weight } else { bound }
 }
 
-// The floor that the tree records at a position give, where `weight` is that of the cut found. `loads` is work space.
-pub fn bound(
-    s: &[u8],
-    at: usize,
-    links: usize,
-    trees: usize,
-    weights: &[u32],
-    loads: &mut [u64],
-    weight: u64,
-) -> u64
-    requires { ⌜ (at + trees * treeLength links ≤ length (now s)) × (links ≤ 2048) × (trees ≤ 32) × (links ≤ length (now weights)) × (length (now loads) ≡ 2048) ⌝ }
+// The floor that the tree records at a position give, where `weight` is that of the cut found.
+pub fn bound(s: &[u8], at: usize, links: usize, trees: usize, weights: &[u32], weight: u64) -> u64
+    requires { ⌜ (at + trees * treeLength links ≤ length (now s)) × (links ≤ 2048) × (trees ≤ 32) × (links ≤ length (now weights)) ⌝ }
     ensures { λ r. ⌜ ((net : Network) → linkCount net ≡ links → ((k : ℕ) → k < links → linkAt net k .weight ≡ entry (now (weights .entry)) k)
         → r ≡ floor net (treesFrom net trees (drop at (now (s .entry)))) weight) ⌝ }
 {
-    let shares = load_links(s, at, links, trees, loads);
-    let over = overloaded(loads, weights, links);
+    let mut loads = [0u64; 2048];
+    let shares = load_links(s, at, links, trees, &mut loads);
+    let over = overloaded(&loads, weights, links);
     floor(over, weight, shares)
 }
 

@@ -12,9 +12,10 @@ use records::refusals;
 ghost use mathlib.Core.Path.{_≡_};
 ghost use Prim.Native.Nat.{_≤_, _<_};
 ghost use lib.ListN.{length, drop};
+ghost use Rattle.trees.specs.Growing.{EndArrays};
 ghost use Rattle.sheet.specs.Sheet.{base, decodeBody, decode};
 ghost use Rattle.records.specs.Answers.{countsOf};
-ghost use Rattle.reader.specs.Answers.{TreeArrays, sheetSays, TreesLast};
+ghost use Rattle.reader.specs.Answers.{sheetSays, TreesLast};
 
 // The counts and where the first tree record stands, or the refusal number.
 pub enum Outcome {
@@ -23,43 +24,17 @@ pub enum Outcome {
 }
 
 // The links and trees behind the header.
-fn read_body(
-    s: &[u8],
-    c: Counts,
-    firsts: &mut [u8],
-    seconds: &mut [u8],
-    weights: &mut [u32],
-    members: &mut [u16],
-    work: &mut [u8],
-    order: &mut [u8],
-    parents: &mut [u8],
-    uplinks: &mut [u16],
-) -> Outcome
+fn read_body(s: &[u8], c: Counts, ends: &mut [[u8; 2048]; 2], weights: &mut [u32]) -> Outcome
     requires { ⌜ (5 ≤ length (now s)) × (0 < c .nodes) × (c .nodes ≤ 256) × (c .links ≤ 2048) ⌝ }
-    requires { ⌜ (length (now firsts) ≡ 2048) × (length (now seconds) ≡ 2048) × (length (now weights) ≡ 2048) ⌝ }
-    requires { ⌜ TreeArrays (now members) (now work) (now order) (now parents) (now uplinks) ⌝ }
-    ensures { λ r. ⌜ sheetSays (now (s .entry)) (now (firsts .exit)) (now (seconds .exit)) (now (weights .exit)) r ≡ decodeBody base (countsOf c) (drop 5 (now (s .entry))) ⌝ }
-    ensures { λ r. ⌜ TreesLast (now (s .entry)) r ⌝ }
-    ensures { λ _. ⌜ drop 256 (now (work .exit)) ≡ drop 256 (now (work .entry)) ⌝ }
+    requires { ⌜ EndArrays (now ends) × (length (now weights) ≡ 2048) ⌝ }
+    ensures { λ r. ⌜ sheetSays (now (s .entry)) (now (ends .exit)) (now (weights .exit)) r ≡ decodeBody base (countsOf c) (drop 5 (now (s .entry))) ⌝ }
+    ensures { λ r. ⌜ TreesLast (now (s .entry)) r × EndArrays (now (ends .exit)) ⌝ }
 {
     let nodes = c.nodes;
     let links = c.links;
     let trees = c.trees;
-    match read_links(s, HEADER_LENGTH, nodes, links, firsts, seconds, weights) {
-        Step::End(at) => match read_trees(
-            s,
-            at,
-            nodes,
-            links,
-            trees,
-            firsts,
-            seconds,
-            members,
-            work,
-            order,
-            parents,
-            uplinks,
-        ) {
+    match read_links(s, HEADER_LENGTH, nodes, links, ends, weights) {
+        Step::End(at) => match read_trees(s, at, nodes, links, trees, ends) {
             Step::End(end) => {
                 if end < s.len() {
                     Outcome::Refused(refusals::BYTES_LEFT)
@@ -73,40 +48,16 @@ fn read_body(
     }
 }
 
-// Reads a sheet: each link's first end, second end and weight into the arrays, which hold 2,048, and the counts and the position of the
-// first tree record as the answer; or the number of the first refusal. The other arrays, of 256, are work space; of `work`, which may
-// be longer, only the first 256 numbers are used.
-// Cost: one pass over the bytes and one over the bits of each link map, and for each tree at most its members times its nodes.
-pub fn read_sheet(
-    s: &[u8],
-    firsts: &mut [u8],
-    seconds: &mut [u8],
-    weights: &mut [u32],
-    members: &mut [u16],
-    work: &mut [u8],
-    order: &mut [u8],
-    parents: &mut [u8],
-    uplinks: &mut [u16],
-) -> Outcome
-    requires { ⌜ (length (now firsts) ≡ 2048) × (length (now seconds) ≡ 2048) × (length (now weights) ≡ 2048) ⌝ }
-    requires { ⌜ TreeArrays (now members) (now work) (now order) (now parents) (now uplinks) ⌝ }
-    ensures { λ r. ⌜ sheetSays (now (s .entry)) (now (firsts .exit)) (now (seconds .exit)) (now (weights .exit)) r ≡ decode base (now (s .entry)) ⌝ }
-    ensures { λ r. ⌜ TreesLast (now (s .entry)) r ⌝ }
-    ensures { λ _. ⌜ drop 256 (now (work .exit)) ≡ drop 256 (now (work .entry)) ⌝ }
+// Reads a sheet: each link's first end, second end and weight into the arrays, and the counts and the position of the first tree record
+// as the answer; or the number of the first refusal.
+// Cost: one pass over the bytes and one over the bits of each link map, and for each tree a few steps for each of its nodes.
+pub fn read_sheet(s: &[u8], ends: &mut [[u8; 2048]; 2], weights: &mut [u32]) -> Outcome
+    requires { ⌜ EndArrays (now ends) × (length (now weights) ≡ 2048) ⌝ }
+    ensures { λ r. ⌜ sheetSays (now (s .entry)) (now (ends .exit)) (now (weights .exit)) r ≡ decode base (now (s .entry)) ⌝ }
+    ensures { λ r. ⌜ TreesLast (now (s .entry)) r × EndArrays (now (ends .exit)) ⌝ }
 {
     match read_header(s) {
-        Header::Read(c) => read_body(
-            s,
-            c,
-            firsts,
-            seconds,
-            weights,
-            members,
-            work,
-            order,
-            parents,
-            uplinks,
-        ),
+        Header::Read(c) => read_body(s, c, ends, weights),
         Header::Refused(n) => Outcome::Refused(n),
     }
 }

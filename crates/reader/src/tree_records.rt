@@ -1,4 +1,6 @@
 // Tree records: a share, then a map with one bit a link.
+use growth::Grown;
+use growth::grow;
 use records::Step;
 use records::maps::list_members;
 use records::maps::ones;
@@ -6,16 +8,18 @@ use records::maps::stray_bit;
 use records::refusals;
 ghost use mathlib.Core.Path.{_≡_};
 ghost use mathlib.Core.List.{[]};
-ghost use Prim.Native.Nat.{_+_, _-_, _*_, _≤_, _<_};
+ghost use Prim.Native.Nat.{ℕ, _+_, _-_, _*_, _≤_, _<_};
 ghost use lib.ListN.{length, drop};
 ghost use Rattle.cuts.specs.Sums.{countTo, table};
 ghost use Rattle.cuts.specs.Network.{Network, Tree, linkCount};
-ghost use Rattle.trees.specs.Growing.{Held};
+ghost use Rattle.trees.specs.Order.{part};
+ghost use Rattle.trees.specs.Growing.{Held, GrownTree};
+ghost use Rattle.growth.specs.ByNode.{Ending};
 ghost use Rattle.sheet.specs.Bytes.{mapBit};
 ghost use Rattle.sheet.specs.Reading.{firstFailing, records};
 ghost use Rattle.sheet.specs.Sheet.{mapLength, treeLength, treeIn, mapChecks, treeRecord};
 ghost use Rattle.records.specs.Answers.{stepSays, EndsAt};
-ghost use Rattle.reader.specs.Answers.{TreeArrays, ReadyTree, treesFrom};
+ghost use Rattle.reader.specs.Answers.{treesFrom};
 
 // The refusal number of a map's bits, 0 where they are not refused.
 fn map_refusal(map: &[u8], nodes: usize, links: usize) -> u32
@@ -31,62 +35,25 @@ fn map_refusal(map: &[u8], nodes: usize, links: usize) -> u32
     0
 }
 
-// Lists the tree's members and grows it; says whether they join all nodes. The first 256 numbers of `work` are its work space.
-pub fn grow_tree(
-    map: &[u8],
-    nodes: usize,
-    links: usize,
-    firsts: &[u8],
-    seconds: &[u8],
-    members: &mut [u16],
-    work: &mut [u8],
-    order: &mut [u8],
-    parents: &mut [u8],
-    uplinks: &mut [u16],
-) -> bool
-    requires { ⌜ (length (now map) ≡ mapLength links) × (countTo links (mapBit (now map)) ≡ nodes - 1) × (0 < nodes) × (nodes ≤ 256) ⌝ }
-    requires { ⌜ (links ≤ 2048) × (links ≤ length (now firsts)) × (links ≤ length (now seconds)) ⌝ }
-    requires { ⌜ TreeArrays (now members) (now work) (now order) (now parents) (now uplinks) ⌝ }
-    ensures { λ r. ⌜ ((net : Network) (t : Tree) → Held net (now (firsts .entry)) (now (seconds .entry)) nodes → linkCount net ≡ links
-        → t .members ≡ table links (mapBit (now (map .entry)))
-        → ReadyTree net t (now (members .exit)) (now (order .exit)) (now (parents .exit)) (now (uplinks .exit)) r) ⌝ }
-    ensures { λ _. ⌜ drop 256 (now (work .exit)) ≡ drop 256 (now (work .entry)) ⌝ }
+// Grows the tree whose members are in a map, and says whether they join all nodes.
+pub fn grow_tree(map: &[u8], nodes: usize, links: usize, ends: &[[u8; 2048]; 2]) -> Grown
+    requires { ⌜ (length (now map) ≡ mapLength links) × (countTo links (mapBit (now map)) ≡ nodes - 1) × (0 < nodes) × (nodes ≤ 256) × (links ≤ 2048) ⌝ }
+    requires { ⌜ ((k : ℕ) → k < links → Ending (part (now ends) 0) (part (now ends) 1) nodes k) ⌝ }
+    ensures { λ r. ⌜ ((net : Network) (t : Tree) → Held net (part (now (ends .entry)) 0) (part (now (ends .entry)) 1) nodes → linkCount net ≡ links
+        → t .members ≡ table links (mapBit (now (map .entry))) → GrownTree net t (r .order) (r .parents) (r .uplinks) (r .joined)) ⌝ }
 {
-    let count = list_members(map, links, members);
-    trees::grow(
-        &mut work[0..256],
-        order,
-        parents,
-        uplinks,
-        firsts,
-        seconds,
-        members,
-        count,
-        nodes,
-    )
+    let mut members = [0u16; 256];
+    let count = list_members(map, links, &mut members);
+    grow(&ends[0], &ends[1], &members, count, nodes)
 }
 
 // The tree record at a position.
-pub fn read_tree(
-    s: &[u8],
-    at: usize,
-    nodes: usize,
-    links: usize,
-    firsts: &[u8],
-    seconds: &[u8],
-    members: &mut [u16],
-    work: &mut [u8],
-    order: &mut [u8],
-    parents: &mut [u8],
-    uplinks: &mut [u16],
-) -> Step
-    requires { ⌜ (at ≤ length (now s)) × (0 < nodes) × (nodes ≤ 256) ⌝ }
-    requires { ⌜ (links ≤ 2048) × (links ≤ length (now firsts)) × (links ≤ length (now seconds)) ⌝ }
-    requires { ⌜ TreeArrays (now members) (now work) (now order) (now parents) (now uplinks) ⌝ }
-    ensures { λ r. ⌜ ((net : Network) → Held net (now (firsts .entry)) (now (seconds .entry)) nodes → linkCount net ≡ links
+pub fn read_tree(s: &[u8], at: usize, nodes: usize, links: usize, ends: &[[u8; 2048]; 2]) -> Step
+    requires { ⌜ (at ≤ length (now s)) × (0 < nodes) × (nodes ≤ 256) × (links ≤ 2048) ⌝ }
+    requires { ⌜ ((k : ℕ) → k < links → Ending (part (now ends) 0) (part (now ends) 1) nodes k) ⌝ }
+    ensures { λ r. ⌜ ((net : Network) → Held net (part (now (ends .entry)) 0) (part (now (ends .entry)) 1) nodes → linkCount net ≡ links
         → stepSays (treeIn net (drop at (now (s .entry)))) (now (s .entry)) r ≡ treeRecord net (drop at (now (s .entry)))) ⌝ }
     ensures { λ r. ⌜ EndsAt (at + treeLength links) (now (s .entry)) r ⌝ }
-    ensures { λ _. ⌜ drop 256 (now (work .exit)) ≡ drop 256 (now (work .entry)) ⌝ }
 {
     let size = (links + 7) / 8;
     if s.len() - at < 4 + size {
@@ -99,18 +66,9 @@ pub fn read_tree(
     if n != 0 {
         return Step::Refused(n);
     }
-    if grow_tree(
-        map,
-        nodes,
-        links,
-        firsts,
-        seconds,
-        members,
-        work,
-        order,
-        parents,
-        uplinks,
-    ) {
+    let grown = grow_tree(map, nodes, links, ends);
+    let joined = grown.joined;
+    if joined {
         Step::End(end)
     } else {
         Step::Refused(refusals::NOT_JOINED)
@@ -124,39 +82,19 @@ pub fn read_trees(
     nodes: usize,
     links: usize,
     trees: usize,
-    firsts: &[u8],
-    seconds: &[u8],
-    members: &mut [u16],
-    work: &mut [u8],
-    order: &mut [u8],
-    parents: &mut [u8],
-    uplinks: &mut [u16],
+    ends: &[[u8; 2048]; 2],
 ) -> Step
-    requires { ⌜ (from ≤ length (now s)) × (0 < nodes) × (nodes ≤ 256) ⌝ }
-    requires { ⌜ (links ≤ 2048) × (links ≤ length (now firsts)) × (links ≤ length (now seconds)) ⌝ }
-    requires { ⌜ TreeArrays (now members) (now work) (now order) (now parents) (now uplinks) ⌝ }
-    ensures { λ r. ⌜ ((net : Network) → Held net (now (firsts .entry)) (now (seconds .entry)) nodes → linkCount net ≡ links
+    requires { ⌜ (from ≤ length (now s)) × (0 < nodes) × (nodes ≤ 256) × (links ≤ 2048) ⌝ }
+    requires { ⌜ ((k : ℕ) → k < links → Ending (part (now ends) 0) (part (now ends) 1) nodes k) ⌝ }
+    ensures { λ r. ⌜ ((net : Network) → Held net (part (now (ends .entry)) 0) (part (now (ends .entry)) 1) nodes → linkCount net ≡ links
         → stepSays (treesFrom net trees (drop from (now (s .entry)))) (now (s .entry)) r
         ≡ records (λ _. treeRecord net) trees [] (drop from (now (s .entry)))) ⌝ }
     ensures { λ r. ⌜ EndsAt (from + trees * treeLength links) (now (s .entry)) r ⌝ }
-    ensures { λ _. ⌜ drop 256 (now (work .exit)) ≡ drop 256 (now (work .entry)) ⌝ }
 {
     let mut at = from;
     let mut i = 0;
     while i < trees {
-        match read_tree(
-            s,
-            at,
-            nodes,
-            links,
-            firsts,
-            seconds,
-            members,
-            work,
-            order,
-            parents,
-            uplinks,
-        ) {
+        match read_tree(s, at, nodes, links, ends) {
             Step::End(end) => {
                 at = end;
             }

@@ -10,7 +10,7 @@ use native.Mathlib.Numerals.{add-one}
 use lib.Count.{ones, ones-step, ones-ones}
 use lib.Pow.{shr-shr}
 use lib.ListN.{length, getD, take, set}
-use lib.Seq.{take-suc-set}
+use lib.Seq.{take-suc-set, take-set-le}
 use lib.Dec.{leb}
 use borrow.Author.Tests.{leb-true}
 use Rattle.cuts.specs.Sums.{sumTo, only, countTo, anyTo, select}
@@ -88,6 +88,6 @@ module _ (map : Bytes) (k found : ℕ) (members : List ℕ) (listed : take found
   unfolding select
   list-set h b = rw (add-one found, add-one k, take-suc-set members found k b, listed, h)
 
-  pub list-unset : mapBit map k ≡ false → take found members ≡ select (k + 1) (mapBit map)
+  pub list-unset : mapBit map k ≡ false → take found (set members found k) ≡ select (k + 1) (mapBit map)
   unfolding select
-  list-unset h = rw (add-one k, h, listed) (sym (append-nil _))
+  list-unset h = rw (take-set-le found members found k (omega arith), add-one k, h, listed) (sym (append-nil _))

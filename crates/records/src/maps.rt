@@ -44,17 +44,18 @@ pub fn ones(map: &[u8]) -> usize
     sum
 }
 
-// Lists the links below the link count whose bits are set, rising, and answers how many they are.
+// Lists the links below the link count whose bits are set, rising, and answers how many they are. Every link is written behind those listed,
+// and the next one over it where its bit is not set, since a store that waits for no bit is the quicker one.
 pub fn list_members(map: &[u8], links: usize, members: &mut [u16]) -> usize
     requires { ⌜ (links ≤ 8 * length (now map)) × (links ≤ 2048) ⌝ }
-    requires { ⌜ countTo links (mapBit (now map)) ≤ length (now members) ⌝ }
+    requires { ⌜ countTo links (mapBit (now map)) < length (now members) ⌝ }
     ensures { λ r. ⌜ (r ≡ countTo links (mapBit (now (map .entry)))) × (take r (now (members .exit)) ≡ select links (mapBit (now (map .entry)))) ⌝ }
 {
     let mut found = 0;
     let mut k = 0;
     while k < links {
+        members[found] = k as u16;
         if bit_set(map, k) {
-            members[found] = k as u16;
             found += 1;
         }
         k += 1;

@@ -1,86 +1,113 @@
-// Searches the candidates of one tree for the lightest: every member alone, then with every later one.
-// The work array has three parts of 256 marks: the nodes below the first link, the side of the candidate that is tried, and the side of
-// the lightest found so far.
-pub mod rows; // the candidates of a tree by their first link
+// Searches the candidates of one tree by rows: from the last place down, the link at each place alone, then with each one behind it.
+pub mod index; // the links at each node
 
-use crate::rows::search_row;
-use crate::rows::weigh_singles;
+use choice::Found;
+use choice::try_pair;
+use places::Places;
+use rows::gather;
+use rows::make_row;
+use rows::pair_weight;
 ghost use mathlib.Core.Path.{_≡_};
-ghost use Prim.Native.Nat.{_≤_, _<_};
-ghost use lib.ListN.{length, drop};
+ghost use mathlib.Core.List.{List};
+ghost use Prim.Native.Nat.{ℕ, _+_, _≤_, _<_};
+ghost use lib.ListN.{length};
 ghost use Rattle.cuts.specs.First.{firstFrom};
 ghost use Rattle.cuts.specs.Network.{Network, Tree};
-ghost use Rattle.cuts.specs.Candidate.{Candidate, lighter, handles, memberLinks};
-ghost use Rattle.sides.specs.Laid.{Laid};
-ghost use Rattle.search.specs.Found.{Says, Ready, candidatesOf};
+ghost use Rattle.cuts.specs.Candidate.{Candidate, lighter};
+ghost use Rattle.trees.specs.Order.{entry, part};
+ghost use Rattle.trees.specs.Growing.{Within};
+ghost use Rattle.growth.specs.ByNode.{starts, listed};
+ghost use Rattle.places.specs.Kept.{Kept};
+ghost use Rattle.rows.specs.Rows.{Light, AllByNode, Indexed, Degrees, Weighted, degreesIn, Row};
+ghost use Rattle.choice.specs.Choice.{Says, Prior, treeCandidates};
+ghost use Rattle.choice.specs.Rows.{Reached};
 
-// A candidate: the tree, its one or two links, which are equal where there is one, and the weight.
-pub struct Found {
-    pub tree: u8,
-    pub first: u16,
-    pub second: u16,
-    pub weight: u64,
+// The degree of the node at each place, in its part of `figures`.
+fn weigh_places(figures: &mut [u64], node: &[u8], degrees: &[u64])
+    requires { ⌜ (length (now figures) ≡ 1025) × (length (now node) ≡ 256) × (length (now degrees) ≡ 256) ⌝ }
+    ensures { λ _. ⌜ ((p : ℕ) → p < 256 → entry (degreesIn (now (figures .exit))) p ≡ entry (now (degrees .entry)) (entry (now (node .entry)) p)) ⌝ }
+{
+    gather(&mut figures[257..513], node, degrees);
 }
 
-// The lightest of what was found before and the tree's candidates; of equal ones the first. The side of what is found stands as marks in
-// the last part of `work`; the rest of `work` and `singles` are work space.
-// Cost: for each member a few passes over the nodes and one over the links, and as much for each pair whose single weights are less far
-// apart than the lightest found so far weighs.
-pub fn search_tree(
-    work: &mut [u8],
-    singles: &mut [u64],
-    firsts: &[u8],
-    seconds: &[u8],
-    weights: &[u32],
-    members: &[u16],
-    order: &[u8],
-    parents: &[u8],
-    uplinks: &[u16],
+// The first of what was found before and the candidates of row `u`: the link at place `u` alone, then with each one behind it.
+fn search_row(
+    figures: &[u64],
+    stops: &[u16],
+    links: &[u16],
     nodes: usize,
-    links: usize,
+    tree: u8,
+    u: usize,
+    before: Found,
+) -> Found
+    requires { ⌜ (length (now figures) ≡ 1025) × (length (now stops) ≡ 256) × Within (now stops) 256 257 × (length (now links) ≡ 256) × (nodes ≤ 256) × (0 < u) × (u < nodes) ⌝ }
+    ensures { λ r. ⌜ ((net : Network) (t : Tree) (c : Candidate) (place node : List ℕ) → Light net → net .nodes ≡ nodes
+        → Kept net t place node (now (stops .entry)) (now (links .entry)) → Row net t place (now (stops .entry)) (now (links .entry)) u (now (figures .entry))
+        → Reached lighter c net tree t (now (links .entry)) (u + 1) nodes before → Reached lighter c net tree t (now (links .entry)) u nodes r) ⌝ }
+{
+    let link = links[u];
+    let mut best = try_pair(before, tree, link, link, figures[513 + u]);
+    let mut v = u + 1;
+    while v < nodes {
+        let weight = pair_weight(figures, stops, u, v);
+        best = try_pair(best, tree, link, links[v], weight);
+        v += 1;
+    }
+    best
+}
+
+// The first of what was found before and all candidates of a tree; `figures` has the degrees by place.
+fn search_rows(
+    figures: &mut [u64],
+    ends: &[[u8; 2048]; 2],
+    weights: &[u32],
+    lists: &[u16],
+    p: Places,
+    nodes: usize,
     tree: u8,
     before: Found,
 ) -> Found
-    requires { ⌜ (length (now work) ≡ 768) × (length (now singles) ≡ 256) × (0 < nodes) × (nodes ≤ 256) × (links ≤ 2048) ⌝ }
-    requires { ⌜ (links ≤ length (now firsts)) × (links ≤ length (now seconds)) × (links ≤ length (now weights)) ⌝ }
-    requires { ⌜ (length (now members) ≡ 256) × (length (now order) ≡ 256) × (length (now parents) ≡ 256) × (length (now uplinks) ≡ 256) ⌝ }
-    ensures { λ r. ⌜ ((net : Network) (t : Tree) (c : Candidate) → Laid net (now (firsts .entry)) (now (seconds .entry)) (now (weights .entry)) nodes links
-        → Ready net t (now (members .entry)) (now (order .entry)) (now (parents .entry)) (now (uplinks .entry)) → Says before (drop 512 (now (work .entry))) c
-        → Says r (drop 512 (now (work .exit))) (firstFrom lighter c (candidatesOf net tree t (handles (memberLinks net t))))) ⌝ }
+    requires { ⌜ (length (now figures) ≡ 1025) × (length (now weights) ≡ 2048) × (length (now lists) ≡ 4353) × (nodes ≤ 256) ⌝ }
+    requires { ⌜ AllByNode (part (now ends) 0) (part (now ends) 1) (starts (now lists)) (listed (now lists)) nodes × Within (p .node) 256 nodes × Within (p .stops) 256 257 ⌝ }
+    ensures { λ r. ⌜ ((net : Network) (t : Tree) (c : Candidate) (links : ℕ) → Indexed net (now (ends .entry)) (now (weights .entry)) (now (lists .entry)) nodes links
+        → Kept net t (p .place) (p .node) (p .stops) (p .links) → Weighted net (p .place) (degreesIn (now (figures .entry)))
+        → Prior lighter net tree t c → Says before c → Says r (firstFrom lighter c (treeCandidates net tree t))) ⌝ }
 {
-    weigh_singles(
-        &mut work[0..256],
-        singles,
-        firsts,
-        seconds,
-        weights,
-        members,
-        order,
-        parents,
-        uplinks,
-        nodes,
-        links,
-    );
+    let place = p.place;
+    let node = p.node;
+    let stops = p.stops;
+    let links = p.links;
+    let bytes = [place, node];
     let mut best = before;
-    let mut i = 0;
-    while i < nodes - 1 {
-        best = search_row(
-            work,
-            singles,
-            firsts,
-            seconds,
-            weights,
-            members,
-            order,
-            parents,
-            uplinks,
-            nodes,
-            links,
-            tree,
-            i,
-            best,
-        );
-        i += 1;
+    let mut u = nodes;
+    while u > 1 {
+        u -= 1;
+        make_row(figures, ends, weights, lists, &bytes, &stops, nodes, u);
+        best = search_row(figures, &stops, &links, nodes, tree, u, best);
     }
     best
+}
+
+// The first of what was found before and all candidates of a tree that was placed; `degrees` has the weight of each node's links.
+// Cost: a few steps for each pair of its links, and at most 2 log2 nodes of them for each link of the network.
+pub fn search_tree(
+    ends: &[[u8; 2048]; 2],
+    weights: &[u32],
+    lists: &[u16],
+    degrees: &[u64],
+    p: Places,
+    nodes: usize,
+    tree: u8,
+    before: Found,
+) -> Found
+    requires { ⌜ (length (now weights) ≡ 2048) × (length (now lists) ≡ 4353) × (length (now degrees) ≡ 256) × (nodes ≤ 256) ⌝ }
+    requires { ⌜ AllByNode (part (now ends) 0) (part (now ends) 1) (starts (now lists)) (listed (now lists)) nodes × Within (p .node) 256 nodes × Within (p .stops) 256 257 ⌝ }
+    ensures { λ r. ⌜ ((net : Network) (t : Tree) (c : Candidate) (links : ℕ) → Indexed net (now (ends .entry)) (now (weights .entry)) (now (lists .entry)) nodes links
+        → Degrees net (now (degrees .entry)) → Kept net t (p .place) (p .node) (p .stops) (p .links)
+        → Prior lighter net tree t c → Says before c → Says r (firstFrom lighter c (treeCandidates net tree t))) ⌝ }
+{
+    let node = p.node;
+    let mut figures = [0u64; 1025];
+    weigh_places(&mut figures, &node, degrees);
+    search_rows(&mut figures, ends, weights, lists, p, nodes, tree, before)
 }

@@ -1,50 +1,103 @@
-// Sides as marks, one a node, and their weight.
+// A side as marks, one a node, made from the places of a tree.
+use places::Places;
 ghost use mathlib.Core.Path.{_≡_};
-ghost use mathlib.Core.List.{_++_};
-ghost use Prim.Native.Nat.{ℕ, _≤_};
-ghost use lib.ListN.{length, take};
-ghost use Rattle.cuts.specs.Network.{Network};
-ghost use Rattle.cuts.specs.Cut.{Side, cutWeight, symDiff};
+ghost use mathlib.Core.Bool.{xor};
+ghost use Prim.Native.Nat.{ℕ, _≤_, _<_};
+ghost use lib.ListN.{length, replicate};
+ghost use Rattle.cuts.specs.Sums.{only};
+ghost use Rattle.cuts.specs.Network.{Network, Tree};
+ghost use Rattle.cuts.specs.Tree.{Member};
+ghost use Rattle.cuts.specs.Candidate.{Fits, sideOf};
+ghost use Rattle.trees.specs.Order.{entry};
 ghost use Rattle.trees.specs.Marks.{marks};
-ghost use Rattle.sides.specs.Laid.{Laid};
+ghost use Rattle.places.specs.Kept.{within, LinksAt, Kept};
+ghost use Rattle.choice.specs.Choice.{chosen};
 
-// The second half of the marks becomes the nodes of exactly one half.
-pub fn differ(pair: &mut [u8])
-    requires { ⌜ length (now pair) ≡ 512 ⌝ }
-    ensures { λ _. ⌜ ((r s : Side) → now (pair .entry) ≡ marks r ++ marks s → now (pair .exit) ≡ marks r ++ marks (symDiff r s)) ⌝ }
+// The place of a member's lower end, 0 where no place has the link.
+fn place_of(links: &[u16], nodes: usize, link: u16) -> usize
+    requires { ⌜ (length (now links) ≡ 256) × (nodes ≤ 256) ⌝ }
+    ensures { λ r. ⌜ r < 256 ⌝ }
+    ensures { λ r. ⌜ ((net : Network) (t : Tree) → LinksAt net t (now (links .entry)) → net .nodes ≡ nodes → Member net t link
+        → (0 < r) × (r < nodes) × (entry (now (links .entry)) r ≡ link)) ⌝ }
 {
+    let mut p = 1;
+    while p < nodes {
+        if links[p] == link {
+            return p;
+        }
+        p += 1;
+    }
+    0
+}
+
+// Whether the place `p` is one of from, .., to - 1.
+fn inside(p: usize, from: usize, to: usize) -> bool
+    ensures { λ r. ⌜ r ≡ within from to p ⌝ }
+{
+    if p < from {
+        return false;
+    }
+    p < to
+}
+
+// 1 where exactly one of the two holds, else 0.
+fn mark(first: bool, second: bool) -> u8
+    ensures { λ r. ⌜ r ≡ only (xor first second) 1 ⌝ }
+{
+    if first == second { 0 } else { 1 }
+}
+
+// Takes all marks off.
+fn clear(side: &mut [u8])
+    ensures { λ _. ⌜ now (side .exit) ≡ replicate (length (now (side .entry))) 0 ⌝ }
+{
+    let mut i = 0;
+    while i < side.len() {
+        side[i] = 0;
+        i += 1;
+    }
+}
+
+// Marks the nodes whose places are in exactly one of two runs of places, from, .., to - 1 and start, .., end - 1.
+fn mark_runs(
+    side: &mut [u8],
+    place: &[u8],
+    nodes: usize,
+    from: usize,
+    to: usize,
+    start: usize,
+    end: usize,
+)
+    requires { ⌜ (length (now side) ≡ 256) × (length (now place) ≡ 256) × (nodes ≤ 256) ⌝ }
+    ensures { λ _. ⌜ ((x : ℕ) → x < nodes
+        → entry (now (side .exit)) x ≡ only (xor (within from to (entry (now (place .entry)) x)) (within start end (entry (now (place .entry)) x))) 1) ⌝ }
+    ensures { λ _. ⌜ ((x : ℕ) → nodes ≤ x → x < 256 → entry (now (side .exit)) x ≡ 0) ⌝ }
+{
+    clear(side);
     let mut x = 0;
-    while x < 256 {
-        pair[256 + x] = pair[x] ^ pair[256 + x];
+    while x < nodes {
+        let p = place[x] as usize;
+        side[x] = mark(inside(p, from, to), inside(p, start, end));
         x += 1;
     }
 }
 
-// The second half of the marks becomes the first.
-pub fn repeat(pair: &mut [u8])
-    requires { ⌜ length (now pair) ≡ 512 ⌝ }
-    ensures { λ _. ⌜ now (pair .exit) ≡ take 256 (now (pair .entry)) ++ take 256 (now (pair .entry)) ⌝ }
+// Marks the side of the member `first` alone where `second` is equal to it, else of both.
+pub fn mark_side(side: &mut [u8], p: Places, nodes: usize, first: u16, second: u16)
+    requires { ⌜ (length (now side) ≡ 256) × (nodes ≤ 256) ⌝ }
+    ensures { λ _. ⌜ ((net : Network) (t : Tree) → Kept net t (p .place) (p .node) (p .stops) (p .links) → net .nodes ≡ nodes → Fits net t (chosen first second)
+        → now (side .exit) ≡ marks (sideOf net t (chosen first second))) ⌝ }
 {
-    let mut x = 0;
-    while x < 256 {
-        pair[256 + x] = pair[x];
-        x += 1;
+    let place = p.place;
+    let stops = p.stops;
+    let links = p.links;
+    let from = place_of(&links, nodes, first);
+    let to = stops[from] as usize;
+    if first == second {
+        mark_runs(side, &place, nodes, from, to, 0, 0);
+    } else {
+        let start = place_of(&links, nodes, second);
+        let end = stops[start] as usize;
+        mark_runs(side, &place, nodes, from, to, start, end);
     }
-}
-
-// The weight of a side.
-pub fn weigh(side: &[u8], firsts: &[u8], seconds: &[u8], weights: &[u32], links: usize) -> u64
-    requires { ⌜ (length (now side) ≡ 256) × (links ≤ 2048) ⌝ }
-    requires { ⌜ (links ≤ length (now firsts)) × (links ≤ length (now seconds)) × (links ≤ length (now weights)) ⌝ }
-    ensures { λ r. ⌜ ((net : Network) (s : Side) (nodes : ℕ) → Laid net (now (firsts .entry)) (now (seconds .entry)) (now (weights .entry)) nodes links
-        → now (side .entry) ≡ marks s → r ≡ cutWeight net s) ⌝ }
-{
-    let mut sum: u64 = 0;
-    let mut k = 0;
-    while k < links {
-        let crossed = side[firsts[k] as usize] ^ side[seconds[k] as usize];
-        sum += crossed as u64 * weights[k] as u64;
-        k += 1;
-    }
-    sum
 }

@@ -4,51 +4,51 @@ use Prim.Native.Nat.{ℕ, _+_, _-_, _*_, _≤_, _<_}
 use mathlib.Core.Path.{_≡_, refl, sym, ap, _∙_, subst}
 use mathlib.Core.List.{List, []}
 use native.Mathlib.Omega.{arith}
-use lib.ListN.{length, getD, drop}
+use lib.ListN.{length, drop}
 use lib.Seq.{drop-drop}
 use Rattle.cuts.specs.Sums.{countTo}
 use Rattle.cuts.specs.Network.{Link, Tree, noTree, linkAt, linkCount, treeAt}
 use Rattle.cuts.specs.Tree.{Spanning, Sound}
 use Rattle.cuts.proofs.SumLaws.{table-length, table-at}
+use Rattle.trees.specs.Order.{entry, part}
+use Rattle.trees.specs.Growing.{EndArrays, Laid}
+use Rattle.growth.specs.ByNode.{Ending}
+use Rattle.growth.proofs.RunLaws.{held-ending}
 use Rattle.sheet.specs.Bytes.{Bytes, mapBit}
 use Rattle.sheet.specs.Sheet.{Counts, base, treeLength, treeIn, network, Accepted}
 use Rattle.sheet.proofs.Acceptance.{members-counted}
 use Rattle.links.specs.Answers.{linksOf}
 use Rattle.links.proofs.LinksLaws.{linksOf-length, linksOf-at}
 use Rattle.reader.specs.Answers.{treesFrom, networkAt}
-use Rattle.sides.specs.Laid.{Laid}
 
 -- which trees are listed does not matter to what a record says
 treeIn-any : (nodes : ℕ) (links : List Link) (ts us : List Tree) (bs : Bytes) → treeIn (network nodes links ts) bs ≡ treeIn (network nodes links us) bs
 unfolding treeIn
 treeIn-any nodes links ts us bs = refl
 
-module _ (s : Bytes) (fs ss ws : List ℕ) (c : Counts) (at : ℕ) where
-  pub networkAt-trees : length (networkAt s fs ss ws c at .trees) ≡ c .trees
+module _ (s : Bytes) (ends : List (List ℕ)) (ws : List ℕ) (c : Counts) (at : ℕ) where
+  pub networkAt-trees : length (networkAt s ends ws c at .trees) ≡ c .trees
   unfolding treesFrom
-  networkAt-trees = table-length (c .trees) (λ j. treeIn (network (c .nodes) (linksOf (c .links) fs ss ws) []) (drop (j * treeLength (length (linksOf (c .links) fs ss ws))) (drop at s)))
+  networkAt-trees = table-length (c .trees) (λ j. treeIn (network (c .nodes) (linksOf (c .links) (part ends 0) (part ends 1) ws) []) (drop (j * treeLength (length (linksOf (c .links) (part ends 0) (part ends 1) ws))) (drop at s)))
 
   pub networkAt-tree : (i : ℕ) → i < c .trees
-      → treeAt (networkAt s fs ss ws c at) i ≡ treeIn (networkAt s fs ss ws c at) (drop (at + i * treeLength (c .links)) s)
+      → treeAt (networkAt s ends ws c at) i ≡ treeIn (networkAt s ends ws c at) (drop (at + i * treeLength (c .links)) s)
   unfolding treesFrom
   networkAt-tree i b =
-      let links : List Link = linksOf (c .links) fs ss ws in
+      let links : List Link = linksOf (c .links) (part ends 0) (part ends 1) ws in
       table-at noTree (c .trees) (λ j. treeIn (network (c .nodes) links []) (drop (j * treeLength (length links)) (drop at s))) i b
-      ∙ ap (treeIn (network (c .nodes) links [])) (drop-drop (i * treeLength (length links)) at s ∙ ap (λ (m : ℕ). drop (at + i * treeLength m) s) (linksOf-length (c .links) fs ss ws))
-      ∙ treeIn-any (c .nodes) links [] (networkAt s fs ss ws c at .trees) (drop (at + i * treeLength (c .links)) s)
+      ∙ ap (treeIn (network (c .nodes) links [])) (drop-drop (i * treeLength (length links)) at s ∙ ap (λ (m : ℕ). drop (at + i * treeLength m) s) (linksOf-length (c .links) (part ends 0) (part ends 1) ws))
+      ∙ treeIn-any (c .nodes) links [] (networkAt s ends ws c at .trees) (drop (at + i * treeLength (c .links)) s)
 
-  module _ (a : Accepted base (networkAt s fs ss ws c at)) where
+  module _ (a : Accepted base (networkAt s ends ws c at)) where
     pub networkAt-links-most : c .links ≤ 2048
-    networkAt-links-most = let e = linksOf-length (c .links) fs ss ws in let b = a .links-most in omega arith
+    networkAt-links-most = let e = linksOf-length (c .links) (part ends 0) (part ends 1) ws in let b = a .links-most in omega arith
 
     pub networkAt-trees-most : c .trees ≤ 32
     networkAt-trees-most = let e = networkAt-trees in let b = a .trees-most in omega arith
 
-    pub networkAt-trees-least : 0 < c .trees
-    networkAt-trees-least = let e = networkAt-trees in let b = a .sound .listed in omega arith
-
-  module _ (v : Sound (networkAt s fs ss ws c at)) where
-    pub networkAt-laid : Laid (networkAt s fs ss ws c at) fs ss ws (c .nodes) (c .links)
+  module _ (v : Sound (networkAt s ends ws c at)) where
+    pub networkAt-laid : Laid (networkAt s ends ws c at) (part ends 0) (part ends 1) ws (c .nodes) (c .links)
     networkAt-laid = record {
       held = record {
         linked = v .linked;
@@ -56,21 +56,28 @@ module _ (s : Bytes) (fs ss ws : List ℕ) (c : Counts) (at : ℕ) where
         firsts = λ k b. ap (λ (l : Link). l .first) (link k b);
         seconds = λ k b. ap (λ (l : Link). l .second) (link k b);
       };
-      counted = linksOf-length (c .links) fs ss ws;
+      counted = linksOf-length (c .links) (part ends 0) (part ends 1) ws;
       weights = λ k b. ap (λ (l : Link). l .weight) (link k b);
     }
       where
-        link : (k : ℕ) → k < linkCount (networkAt s fs ss ws c at)
-            → linkAt (networkAt s fs ss ws c at) k ≡ record { first = getD fs k 0; second = getD ss k 0; weight = getD ws k 0 }
-        link k b = linksOf-at (c .links) fs ss ws k (rw (← linksOf-length (c .links) fs ss ws) b)
+        link : (k : ℕ) → k < linkCount (networkAt s ends ws c at)
+            → linkAt (networkAt s ends ws c at) k ≡ record { first = entry (part ends 0) k; second = entry (part ends 1) k; weight = entry ws k }
+        link k b = linksOf-at (c .links) (part ends 0) (part ends 1) ws k (rw (← linksOf-length (c .links) (part ends 0) (part ends 1) ws) b)
 
     module _ (i : ℕ) (b : i < c .trees) where
-      pub networkAt-spanning : Spanning (networkAt s fs ss ws c at) (treeIn (networkAt s fs ss ws c at) (drop (at + i * treeLength (c .links)) s))
-      networkAt-spanning = subst (Spanning (networkAt s fs ss ws c at)) (networkAt-tree i b) (v .spanning i (rw networkAt-trees b))
+      pub networkAt-spanning : Spanning (networkAt s ends ws c at) (treeIn (networkAt s ends ws c at) (drop (at + i * treeLength (c .links)) s))
+      networkAt-spanning = subst (Spanning (networkAt s ends ws c at)) (networkAt-tree i b) (v .spanning i (rw networkAt-trees b))
 
       pub networkAt-counted : countTo (c .links) (mapBit (drop (at + i * treeLength (c .links) + 4) s)) ≡ c .nodes - 1
       networkAt-counted =
           let p : ℕ = at + i * treeLength (c .links) in
           ap (λ (bs : Bytes). countTo (c .links) (mapBit bs)) (sym (drop-drop 4 p s))
-          ∙ ap (λ (m : ℕ). countTo m (mapBit (drop 4 (drop p s)))) (sym (linksOf-length (c .links) fs ss ws))
-          ∙ sym (members-counted (networkAt s fs ss ws c at) (drop p s)) ∙ networkAt-spanning .counted
+          ∙ ap (λ (m : ℕ). countTo m (mapBit (drop 4 (drop p s)))) (sym (linksOf-length (c .links) (part ends 0) (part ends 1) ws))
+          ∙ sym (members-counted (networkAt s ends ws c at) (drop p s)) ∙ networkAt-spanning .counted
+
+  -- the arrays have all links' ends, and they are nodes
+  pub networkAt-ending : Accepted base (networkAt s ends ws c at) → EndArrays ends → (k : ℕ) → k < c .links → Ending (part ends 0) (part ends 1) (c .nodes) k
+  networkAt-ending a e k b =
+      let n = linksOf-length (c .links) (part ends 0) (part ends 1) ws in
+      let m = networkAt-links-most a in
+      held-ending (networkAt-laid (a .sound) .held) (omega (arith, n, e .firsts)) (omega (arith, n, e .seconds)) k (omega (arith, n))

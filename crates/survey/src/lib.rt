@@ -1,112 +1,96 @@
-// Searches all trees of a sheet that was read: each is grown again from its record, and its candidates are searched.
+// Searches all trees of a sheet that was read, each grown and placed again from its record, and makes the side of what is found.
+use choice::Found;
+use places::Places;
+use places::place_tree;
 use reader::tree_records::grow_tree;
 use records::header::Counts;
-use search::Found;
+use search::index::index_links;
 use search::search_tree;
-use trees::clear;
+use sides::mark_side;
 ghost use mathlib.Core.Path.{_≡_};
-ghost use Prim.Native.Nat.{_+_, _-_, _*_, _≤_, _<_};
+ghost use mathlib.Core.List.{List};
+ghost use Prim.Native.Nat.{ℕ, _+_, _-_, _*_, _≤_, _<_};
 ghost use lib.ListN.{length, drop};
 ghost use Rattle.cuts.specs.Sums.{countTo};
 ghost use Rattle.cuts.specs.First.{firstFrom};
-ghost use Rattle.cuts.specs.Network.{Network};
+ghost use Rattle.cuts.specs.Network.{Network, Tree, linkCount, treeAt};
 ghost use Rattle.cuts.specs.Tree.{Spanning};
-ghost use Rattle.cuts.specs.Candidate.{Candidate, lighter, handles, memberLinks};
+ghost use Rattle.cuts.specs.Candidate.{Candidate, Fits, lighter, sideOf};
 ghost use Rattle.cuts.specs.Answer.{answer};
+ghost use Rattle.trees.specs.Order.{part};
+ghost use Rattle.trees.specs.Growing.{Within, EndArrays, Held};
+ghost use Rattle.trees.specs.Marks.{marks};
+ghost use Rattle.growth.specs.ByNode.{Ending, starts, listed};
+ghost use Rattle.places.specs.Kept.{Kept};
+ghost use Rattle.rows.specs.Rows.{AllByNode, Indexed, Degrees};
+ghost use Rattle.choice.specs.Choice.{Says, Prior, chosen, treeCandidates};
 ghost use Rattle.sheet.specs.Bytes.{mapBit};
 ghost use Rattle.sheet.specs.Sheet.{base, treeLength, treeIn, Accepted};
 ghost use Rattle.records.specs.Answers.{countsOf};
-ghost use Rattle.reader.specs.Answers.{TreeArrays, networkAt};
-ghost use Rattle.sides.specs.Laid.{Laid};
-ghost use Rattle.search.specs.Found.{Says, candidatesOf};
+ghost use Rattle.reader.specs.Answers.{networkAt};
 
 // A weight above that of every cut.
 const UNFOUND: u64 = 18446744073709551615;
 
-// The lightest of what was found before and the candidates of the tree whose record stands at a position; of equal ones the first.
-fn search_record(
-    s: &[u8],
-    at: usize,
-    nodes: usize,
-    links: usize,
-    firsts: &[u8],
-    seconds: &[u8],
-    weights: &[u32],
-    singles: &mut [u64],
-    members: &mut [u16],
-    work: &mut [u8],
-    order: &mut [u8],
-    parents: &mut [u8],
-    uplinks: &mut [u16],
-    tree: u8,
-    before: Found,
-) -> Found
-    requires { ⌜ (at + treeLength links ≤ length (now s)) × (countTo links (mapBit (drop (at + 4) (now s))) ≡ nodes - 1) × (0 < nodes) × (nodes ≤ 256) × (links ≤ 2048) ⌝ }
-    requires { ⌜ (links ≤ length (now firsts)) × (links ≤ length (now seconds)) × (links ≤ length (now weights)) × (length (now singles) ≡ 256) × (length (now work) ≡ 768) ⌝ }
-    requires { ⌜ TreeArrays (now members) (now work) (now order) (now parents) (now uplinks) ⌝ }
-    ensures { λ r. ⌜ ((net : Network) (c : Candidate) → Laid net (now (firsts .entry)) (now (seconds .entry)) (now (weights .entry)) nodes links
-        → Spanning net (treeIn net (drop at (now (s .entry)))) → Says before (drop 512 (now (work .entry))) c
-        → Says r (drop 512 (now (work .exit)))
-        (firstFrom lighter c (candidatesOf net tree (treeIn net (drop at (now (s .entry)))) (handles (memberLinks net (treeIn net (drop at (now (s .entry))))))))) ⌝ }
-{
-    let map_at = at + 4;
-    let end = map_at + (links + 7) / 8;
-    let map = &s[map_at..end];
-    grow_tree(
-        map,
-        nodes,
-        links,
-        firsts,
-        seconds,
-        members,
-        work,
-        order,
-        parents,
-        uplinks,
-    );
-    search_tree(
-        work,
-        singles,
-        firsts,
-        seconds,
-        weights,
-        members,
-        order,
-        parents,
-        uplinks,
-        nodes,
-        links,
-        tree,
-        before,
-    )
-}
-
-// The first lightest candidate of the network that was read from the sheet into the arrays; its first tree record stands at `at`. The side
-// of what is found is left as marks in the last part of `work`; the other arrays that are lent to be changed are work space.
-pub fn search_trees(
-    s: &[u8],
-    c: Counts,
-    at: usize,
-    firsts: &[u8],
-    seconds: &[u8],
-    weights: &[u32],
-    singles: &mut [u64],
-    members: &mut [u16],
-    work: &mut [u8],
-    order: &mut [u8],
-    parents: &mut [u8],
-    uplinks: &mut [u16],
-) -> Found
-    requires { ⌜ (at + c .trees * treeLength (c .links) ≤ length (now s)) × Accepted base (networkAt (now s) (now firsts) (now seconds) (now weights) (countsOf c) at) ⌝ }
-    requires { ⌜ (length (now firsts) ≡ 2048) × (length (now seconds) ≡ 2048) × (length (now weights) ≡ 2048) × (length (now singles) ≡ 256) × (length (now work) ≡ 768) ⌝ }
-    requires { ⌜ TreeArrays (now members) (now work) (now order) (now parents) (now uplinks) ⌝ }
-    ensures { λ r. ⌜ Says r (drop 512 (now (work .exit))) (answer (networkAt (now (s .entry)) (now (firsts .entry)) (now (seconds .entry)) (now (weights .entry)) (countsOf c) at) .best) ⌝ }
+// The tree whose record stands at a position, by its places.
+fn place_record(s: &[u8], at: usize, c: Counts, ends: &[[u8; 2048]; 2]) -> Places
+    requires { ⌜ (at + treeLength (c .links) ≤ length (now s)) × (countTo (c .links) (mapBit (drop (at + 4) (now s))) ≡ c .nodes - 1) ⌝ }
+    requires { ⌜ (0 < c .nodes) × (c .nodes ≤ 256) × (c .links ≤ 2048) × ((k : ℕ) → k < c .links → Ending (part (now ends) 0) (part (now ends) 1) (c .nodes) k) ⌝ }
+    ensures { λ r. ⌜ Within (r .node) 256 (c .nodes) × Within (r .stops) 256 257 ⌝ }
+    ensures { λ r. ⌜ ((net : Network) → Held net (part (now (ends .entry)) 0) (part (now (ends .entry)) 1) (c .nodes) → linkCount net ≡ c .links
+        → Spanning net (treeIn net (drop at (now (s .entry)))) → Kept net (treeIn net (drop at (now (s .entry)))) (r .place) (r .node) (r .stops) (r .links)) ⌝ }
 {
     let nodes = c.nodes;
     let links = c.links;
+    let map_at = at + 4;
+    let end = map_at + (links + 7) / 8;
+    let map = &s[map_at..end];
+    place_tree(grow_tree(map, nodes, links, ends), nodes)
+}
+
+// The first of what was found before and the candidates of the tree whose record stands at a position.
+fn search_record(
+    s: &[u8],
+    at: usize,
+    c: Counts,
+    ends: &[[u8; 2048]; 2],
+    weights: &[u32],
+    lists: &[u16],
+    degrees: &[u64],
+    tree: u8,
+    before: Found,
+) -> Found
+    requires { ⌜ (at + treeLength (c .links) ≤ length (now s)) × (countTo (c .links) (mapBit (drop (at + 4) (now s))) ≡ c .nodes - 1) ⌝ }
+    requires { ⌜ (0 < c .nodes) × (c .nodes ≤ 256) × (c .links ≤ 2048) × ((k : ℕ) → k < c .links → Ending (part (now ends) 0) (part (now ends) 1) (c .nodes) k) ⌝ }
+    requires { ⌜ (length (now weights) ≡ 2048) × (length (now lists) ≡ 4353) × (length (now degrees) ≡ 256)
+        × AllByNode (part (now ends) 0) (part (now ends) 1) (starts (now lists)) (listed (now lists)) (c .nodes) ⌝ }
+    ensures { λ r. ⌜ ((net : Network) (best : Candidate) → Indexed net (now (ends .entry)) (now (weights .entry)) (now (lists .entry)) (c .nodes) (c .links)
+        → Degrees net (now (degrees .entry)) → Spanning net (treeIn net (drop at (now (s .entry)))) → Prior lighter net tree (treeIn net (drop at (now (s .entry)))) best
+        → Says before best → Says r (firstFrom lighter best (treeCandidates net tree (treeIn net (drop at (now (s .entry))))))) ⌝ }
+{
+    let nodes = c.nodes;
+    let p = place_record(s, at, c, ends);
+    search_tree(ends, weights, lists, degrees, p, nodes, tree, before)
+}
+
+// The first lightest candidate of the network, whose links are listed by node.
+fn search_listed(
+    s: &[u8],
+    c: Counts,
+    at: usize,
+    ends: &[[u8; 2048]; 2],
+    weights: &[u32],
+    lists: &[u16],
+    degrees: &[u64],
+) -> Found
+    requires { ⌜ (at + c .trees * treeLength (c .links) ≤ length (now s)) × Accepted base (networkAt (now s) (now ends) (now weights) (countsOf c) at) ⌝ }
+    requires { ⌜ EndArrays (now ends) × (length (now weights) ≡ 2048) × (length (now lists) ≡ 4353) × (length (now degrees) ≡ 256)
+        × Indexed (networkAt (now s) (now ends) (now weights) (countsOf c) at) (now ends) (now weights) (now lists) (c .nodes) (c .links)
+        × Degrees (networkAt (now s) (now ends) (now weights) (countsOf c) at) (now degrees) ⌝ }
+    ensures { λ r. ⌜ Says r (answer (networkAt (now (s .entry)) (now (ends .entry)) (now (weights .entry)) (countsOf c) at) .best) ⌝ }
+{
     let trees = c.trees;
-    let length = 4 + (links + 7) / 8;
-    clear(&mut work[512..768]);
+    let length = 4 + (c.links + 7) / 8;
     let mut best = Found {
         tree: 0,
         first: 0,
@@ -118,21 +102,58 @@ pub fn search_trees(
         best = search_record(
             s,
             at + i * length,
-            nodes,
-            links,
-            firsts,
-            seconds,
+            c,
+            ends,
             weights,
-            singles,
-            members,
-            work,
-            order,
-            parents,
-            uplinks,
+            lists,
+            degrees,
             i as u8,
             best,
         );
         i += 1;
     }
     best
+}
+
+// The first lightest candidate of the network that was read from the sheet into the arrays; its first tree record stands at `at`.
+pub fn search_trees(
+    s: &[u8],
+    c: Counts,
+    at: usize,
+    ends: &[[u8; 2048]; 2],
+    weights: &[u32],
+) -> Found
+    requires { ⌜ (at + c .trees * treeLength (c .links) ≤ length (now s)) × Accepted base (networkAt (now s) (now ends) (now weights) (countsOf c) at) ⌝ }
+    requires { ⌜ EndArrays (now ends) × (length (now weights) ≡ 2048) ⌝ }
+    ensures { λ r. ⌜ Says r (answer (networkAt (now (s .entry)) (now (ends .entry)) (now (weights .entry)) (countsOf c) at) .best) ⌝ }
+{
+    let nodes = c.nodes;
+    let links = c.links;
+    let mut lists = [0u16; 4353];
+    let mut degrees = [0u64; 256];
+    index_links(&mut lists, &mut degrees, ends, weights, nodes, links);
+    search_listed(s, c, at, ends, weights, &lists, &degrees)
+}
+
+// Marks the side of what is found: of one or two links of one of that network's trees.
+pub fn mark_found(
+    side: &mut [u8],
+    s: &[u8],
+    c: Counts,
+    at: usize,
+    ends: &[[u8; 2048]; 2],
+    found: Found,
+)
+    requires { ⌜ (at + c .trees * treeLength (c .links) ≤ length (now s)) × ((weights : List ℕ) × Accepted base (networkAt (now s) (now ends) weights (countsOf c) at)) ⌝ }
+    requires { ⌜ EndArrays (now ends) × (length (now side) ≡ 256) × (found .tree < c .trees) ⌝ }
+    ensures { λ _. ⌜ ((weights : List ℕ) (t : Tree) → Accepted base (networkAt (now (s .entry)) (now (ends .entry)) weights (countsOf c) at)
+        → t ≡ treeAt (networkAt (now (s .entry)) (now (ends .entry)) weights (countsOf c) at) (found .tree)
+        → Fits (networkAt (now (s .entry)) (now (ends .entry)) weights (countsOf c) at) t (chosen (found .first) (found .second))
+        → now (side .exit) ≡ marks (sideOf (networkAt (now (s .entry)) (now (ends .entry)) weights (countsOf c) at) t (chosen (found .first) (found .second)))) ⌝ }
+{
+    let nodes = c.nodes;
+    let tree = found.tree as usize;
+    let record = at + tree * (4 + (c.links + 7) / 8);
+    let p = place_record(s, record, c, ends);
+    mark_side(side, p, nodes, found.first, found.second);
 }

@@ -1,32 +1,24 @@
 -- Making the order of a tree's nodes: each turn adds the node that hangs by a member on a node reached. Where no member has exactly one
 -- end reached and a node is left, the members do not join it to the root.
 -- Assumes nothing.
-use Prim.Native.Nat.{ℕ, suc, _+_, _≤_, _<_}
+use Prim.Native.Nat.{ℕ, suc, _≤_, _<_}
 use mathlib.Core.Path.{_≡_, refl, sym, ap, _∙_, subst}
 use mathlib.Core.Logic.{_⊎_, inl, inr}
 use mathlib.Core.Bool.{Bool, true, false}
-use mathlib.Core.List.{List, List·Memᴰ}
-use native.Mathlib.Numerals.{add-one}
+use mathlib.Core.List.{List}
 use native.Mathlib.Omega.{arith}
-use lib.ListN.{length, set, take, length-set}
+use lib.ListN.{length, set, length-set}
 use lib.Seq.{getD-set-same, getD-set-other}
 use lib.Dec.{eqb}
 use borrow.Author.Tests.{eqb-true, eqb-false}
 use Rattle.cuts.specs.Sums.{only, countTo}
-use Rattle.cuts.specs.Network.{Tree, Network, Linked, flag, linkAt, linkCount}
+use Rattle.cuts.specs.Network.{Tree, Network, Linked, flag, linkAt}
 use Rattle.cuts.specs.Tree.{Member, joined, spans}
-use Rattle.cuts.specs.Paths.{Meets, forth, back}
 use Rattle.cuts.proofs.FlagLaws.{clash, truth, eqb-comm}
 use Rattle.cuts.proofs.SumLaws.{all-suc, allTo-at, sum-congr, sum-const, sum-single, count-more, count-lacks}
 use Rattle.cuts.proofs.Joined.{turned, meets-in, joined-within}
-use Rattle.cuts.proofs.Handles.{member-in, member-of}
 use Rattle.trees.specs.Order.{entry, Hung, Tied, Listed, Ordered}
-use Rattle.trees.specs.Growing.{marked, nextIn, Given, GrownTree}
-use Rattle.trees.specs.declared.Hanging.{Hanging}
-use Rattle.trees.specs.declared.Next.{Next}
-use Rattle.trees.specs.declared.Next.the-variants.{Hangs, Nothing}
-use Rattle.trees.proofs.NextLaws.{Joining, nextIn-hangs, nextIn-nothing}
-use Rattle.trees.proofs.OrderLaws.{ordered-spans, lower-end}
+use Rattle.trees.specs.Growing.{marked}
 
 -- the order while it is made: the nodes marked in `reached` are those of the first `count` positions
 pub record Growing (net : Network) (t : Tree) (reached order parents uplinks : List ℕ) (count : ℕ) : Type 0 where
@@ -199,39 +191,3 @@ growing-done {net} {t} {reached} {order} {parents} {uplinks} {count} w e = recor
     all : (x : ℕ) → x < net .nodes → (marked reached x ≡ true) ⊎ (marked reached x ≡ false) → marked reached x ≡ true
     all x b (inl q) = q
     all x b (inr q) = let a = count-lacks (net .nodes) (marked reached) x b q in let c = w .counted in absurd (omega arith)
-
--- ---- with the network in arrays
-
-module _ {net : Network} {t : Tree} {fs ss ms : List ℕ} {count nodes : ℕ} (p : Given net t fs ss ms count nodes)
-    {reached order parents uplinks : List ℕ} {found : ℕ} (w : Growing net t reached order parents uplinks found) where
-  pub given-step : {r : Next} {h : Hanging} → r ≡ nextIn reached fs ss (take count ms) → r ≡ Hangs h
-      → Growing net t (set reached (h .node) 1) (set order found (h .node)) (set parents (h .node) (h .parent)) (set uplinks (h .node) (h .link)) (found + 1)
-  given-step {h = h} d e =
-      let n = nextIn-hangs reached fs ss (take count ms) (sym d ∙ e) in
-      let m = member-of net t (subst (List·Memᴰ (h .link)) (p .members) (n .listed)) in
-      rw add-one (growing-step (p .held .linked) w (record { member = m; meets = meets (m .is-link) (n .ends) }) (n .out) (n .into))
-    where
-      meets : {k x y : ℕ} → k < linkCount net → Joining fs ss k x y → Meets net k x y
-      meets {k} b (inl q) = forth (p .held .firsts k b ∙ q .0) (p .held .seconds k b ∙ q .1)
-      meets {k} b (inr q) = back (p .held .seconds k b ∙ q .0) (p .held .firsts k b ∙ q .1)
-
-  pub given-stuck : {r : Next} → r ≡ nextIn reached fs ss (take count ms) → r ≡ Nothing → found < nodes → GrownTree net t order parents uplinks false
-  given-stuck d e b = record {
-    joined = sym (growing-stuck (p .held .linked) w quiet (let q = p .held .sized in omega arith));
-    ordered = λ q. clash q refl;
-    owned = λ q. clash q refl;
-  }
-    where
-      quiet : Quiet net t reached
-      quiet k m =
-          rw (p .held .firsts k (m .is-link), p .held .seconds k (m .is-link))
-          (nextIn-nothing reached fs ss (take count ms) (sym d ∙ e) k (subst (List·Memᴰ k) (sym (p .members)) (member-in net t m)))
-
-  pub given-done : found ≡ nodes → GrownTree net t order parents uplinks true
-  given-done e =
-      let o = growing-done w (e ∙ sym (p .held .sized)) in
-      record {
-        joined = sym (ordered-spans o (p .held .linked));
-        ordered = λ _. o;
-        owned = λ _ c. lower-end o (p .held .linked .rooted) c;
-      }

@@ -1,4 +1,3 @@
-pub mod NextLaws
 pub mod OrderLaws
 pub mod GrowthLaws
 pub mod MarkLaws

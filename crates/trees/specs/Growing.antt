@@ -1,9 +1,6 @@
--- Growing a tree from the root: what the functions of this crate answer and leave behind. Assumes nothing.
+-- Growing a tree from the root: what it answers and leaves behind. Assumes nothing.
 --   marked r x                  node x is marked in the list r
 --   Within xs count m           the first `count` numbers of xs are below m
---   hanging x p k               the answer that node x hangs by the link k on node p
---   nextIn r fs ss ks           of the links ks, whose ends stand in fs and ss, the first with exactly one end marked in r: the
---                               end that is not, as the node that hangs by the link on the other
 --   EndArrays es                es has two arrays of 2,048 numbers, for the first ends and the second ends of links
 --   Held net fs ss n            the arrays hold the network: its links' first ends in fs, their second ends in ss, all of them nodes,
 --                               of which there are n, the root among them
@@ -14,32 +11,20 @@
 --                               parent link of exactly one node
 use Prim.Native.Nat.{ℕ, _-_, _<_}
 use mathlib.Core.Path.{_≡_}
-use mathlib.Core.Bool.{Bool, true, cond}
-use mathlib.Core.List.{List, [], _∷_}
+use mathlib.Core.Bool.{Bool, true}
+use mathlib.Core.List.{List}
 use lib.ListN.{length, take}
 use lib.Dec.{eqb}
 use Rattle.cuts.specs.Network.{Tree, Network, Linked, linkAt, linkCount}
 use Rattle.cuts.specs.Tree.{memberCount, spans}
 use Rattle.cuts.specs.Candidate.{memberLinks}
 use Rattle.trees.specs.Order.{entry, part, Ordered, Owned}
-use Rattle.trees.specs.declared.Next.{Next}
-use Rattle.trees.specs.declared.Next.the-variants.{Hangs, Nothing}
 
 abbrev pub marked : List ℕ → ℕ → Bool
 marked r x = eqb (entry r x) 1
 
 abbrev pub Within : List ℕ → ℕ → ℕ → Type 0
 Within xs count m = (i : ℕ) → i < count → entry xs i < m
-
-abbrev pub hanging : ℕ → ℕ → ℕ → Next
-hanging x p k = Hangs (record { node = x; parent = p; link = k })
-
-unfoldable pub nextIn : List ℕ → List ℕ → List ℕ → List ℕ → Next
-nextIn r fs ss [] = Nothing
-nextIn r fs ss (k ∷ ks) =
-    cond (marked r (entry fs k))
-    (cond (marked r (entry ss k)) (nextIn r fs ss ks) (hanging (entry ss k) (entry fs k) k))
-    (cond (marked r (entry ss k)) (hanging (entry fs k) (entry ss k) k) (nextIn r fs ss ks))
 
 pub record EndArrays (ends : List (List ℕ)) : Type 0 where
   pub both : length ends ≡ 2

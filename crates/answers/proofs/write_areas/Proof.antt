@@ -49,13 +49,13 @@ returns c =
     let told = c .before .before .before .before in
     let wrote = side (counted told .before) in
     let a = start (wrote .before) .args in
-    λ answer says count floor verdict. (
-      wrote .write-side .ensures (answer .best .side) (says .side),
+    λ answer says marked count floor verdict. (
+      wrote .write-side .ensures (answer .best .side) marked,
       c .before .before .write-report .ensures
           ∙ ap (λ (bs : Bytes). written bs (a .report .now))
-          (report-fields (a .found) (a .marks .now) answer says _ _ _ _
+          (report-fields (a .found) answer says _ _ _ _
           (verdict ∙ sym (told .before .before .verdict .ensures))
-          (count ∙ sym (counted told .count-marked .ensures (answer .best .side) (says .side)))
+          (count ∙ sym (counted told .count-marked .ensures (answer .best .side) marked))
           (told .before .second-link .ensures)
           floor),
     )

@@ -3,7 +3,8 @@
 use Prim.Native.Nat.{_-_}
 use mathlib.Core.Path.{_≡_, refl, subst}
 use native.Mathlib.Omega.{arith}
-use lib.ListN.{length, drop}
+use borrow.Author.Needs.{needs}
+use lib.ListN.{drop}
 use lib.Dec.{eqb}
 use Rattle.cuts.specs.Sums.{table}
 use Rattle.sheet.specs.Sheet.{base, linkRecord}
@@ -16,11 +17,11 @@ use Rattle.links.proofs.read_links.Statement.{statement}
 use Rattle.links.proofs.read_links.Tie as tie
 
 abbrev Inv-loop : tie.InvT-loop
-Inv-loop s from nodes count firsts₀ seconds₀ weights₀ at₀ link₀ k₀ firsts seconds weights at link k =
-    LinksRun s from nodes count (length firsts₀, length seconds₀, length weights₀) firsts seconds weights at link k
+Inv-loop s from nodes count ends₀ weights₀ at₀ link₀ k₀ ends weights at link k =
+    LinksRun s from nodes count ends weights at link k
 
 abbrev μ-loop : tie.MeasureT-loop
-μ-loop s from nodes count firsts₀ seconds₀ weights₀ at₀ link₀ k₀ firsts seconds weights at link k = count - k
+μ-loop s from nodes count ends₀ weights₀ at₀ link₀ k₀ ends weights at link k = count - k
 
 loop-holds : tie.Need-loop-holds Inv-loop μ-loop
 unfolding linksOf table
@@ -30,10 +31,9 @@ loop-holds c = record {
   inside = omega arith;
   within = omega arith;
   few = omega arith;
-  firsts = refl;
-  seconds = refl;
-  weights = refl;
-  room = (omega arith, omega arith, omega arith);
+  arrays = c .before .before .pre .3;
+  weights = omega arith;
+  room = omega arith;
 }
 
 read-link-requires : tie.Need-read-link-requires Inv-loop μ-loop
@@ -44,33 +44,39 @@ enum-known-l c = c .match .keys1
 
 -- what `read_link` answered
 module _ (c : tie.After-read-link Inv-loop μ-loop) where
-  link-says : (r : Record) → c .read-link .result ≡ r → let a = c .before .before .before .before .before .before .before .args in let l = c .before .before .loop in
+  link-says : (r : Record) → c .read-link .result ≡ r → let a = c .before .before .before .before .before .args in let l = c .before .before .loop in
       linkSays (a .s .now) r ≡ linkRecord base (a .nodes) (eqb (l .k) 0) (linkOf (l .link)) (drop (l .at) (a .s .now))
   link-says r e =
-      let a = c .before .before .before .before .before .before .before .args in
+      let a = c .before .before .before .before .before .args in
       let l = c .before .before .loop in
       subst (λ (r : Record). linkSays (a .s .now) r ≡ linkRecord base (a .nodes) (eqb (l .k) 0) (linkOf (l .link)) (drop (l .at) (a .s .now))) e (c .read-link .ensures .0)
 
-  link-inside : (r : Record) → c .read-link .result ≡ r → LinkInside (c .before .before .before .before .before .before .before .args .s .now) r
-  link-inside r e = subst (λ (r : Record). LinkInside (c .before .before .before .before .before .before .before .args .s .now) r) e (c .read-link .ensures .1)
+  link-inside : (r : Record) → c .read-link .result ≡ r → LinkInside (c .before .before .before .before .before .args .s .now) r
+  link-inside r e = subst (λ (r : Record). LinkInside (c .before .before .before .before .before .args .s .now) r) e (c .read-link .ensures .1)
 
 -- a link that was read has its ends at nodes
-good : (c : tie.After-l Inv-loop μ-loop) → GoodLink base (c .before .before .before .before .before .before .before .before .before .args .nodes) (linkOf (c .l .given .0 .0))
+good : (c : tie.After-l Inv-loop μ-loop) → GoodLink base (c .before .before .before .before .before .before .before .args .nodes) (linkOf (c .l .given .0 .0))
 good c =
     let got = c .l .given in
     next-good (c .before .before .before .before .loop .inv) (c .before .before .before .loop-test .taken) (got .0 .0) (got .0 .1 .0) (link-says (c .before .before) _ (got .1))
 
-cast-firsts : tie.Need-cast-firsts Inv-loop μ-loop
-cast-firsts c = let g = good (c .before .before) in omega (arith, g .first-in, g .second-in)
+cast-ends : tie.Need-cast-ends Inv-loop μ-loop
+cast-ends c = let g = good (c .before .before) in omega (arith, g .first-in, g .second-in)
 
-slice-write-firsts : tie.Need-slice-write-firsts Inv-loop μ-loop
-slice-write-firsts c = omega arith
+index-1-ends : tie.Need-index-1-ends Inv-loop μ-loop
+index-1-ends c = search needs
 
-cast-seconds : tie.Need-cast-seconds Inv-loop μ-loop
-cast-seconds c = let g = good (c .before .before .before) in omega (arith, g .first-in, g .second-in)
+index-2-ends : tie.Need-index-2-ends Inv-loop μ-loop
+index-2-ends c = omega arith
 
-slice-write-seconds : tie.Need-slice-write-seconds Inv-loop μ-loop
-slice-write-seconds c = omega arith
+cast-ends-2 : tie.Need-cast-ends-2 Inv-loop μ-loop
+cast-ends-2 c = let g = good (c .before .before .before) in omega (arith, g .first-in, g .second-in)
+
+index-1-ends-2 : tie.Need-index-1-ends-2 Inv-loop μ-loop
+index-1-ends-2 c = search needs
+
+index-2-ends-2 : tie.Need-index-2-ends-2 Inv-loop μ-loop
+index-2-ends-2 c = omega arith
 
 mul-weights : tie.Need-mul-weights Inv-loop μ-loop
 mul-weights c = omega arith
@@ -84,16 +90,10 @@ enum-known-n c = c .match .keys2
 same-length : tie.Need-same-length Inv-loop μ-loop
 same-length c = omega arith
 
-same-length-2 : tie.Need-same-length-2 Inv-loop μ-loop
-same-length-2 c = omega arith
-
-same-length-3 : tie.Need-same-length-3 Inv-loop μ-loop
-same-length-3 c = omega arith
-
 returns : tie.Need-returns Inv-loop μ-loop
 returns c =
     let l = c .before .before .before .before .before .loop in
-    (links-stop (l .inv) (c .before .before .before .before .loop-test .taken) (c .before .n .given .0 .0) (link-says (c .before .before .before) _ (c .before .n .given .1)), tt)
+    (links-stop (l .inv) (c .before .before .before .before .loop-test .taken) (c .before .n .given .0 .0) (link-says (c .before .before .before) _ (c .before .n .given .1)), (tt, l .inv .arrays))
 
 add-k : tie.Need-add-k Inv-loop μ-loop
 add-k c = omega arith
@@ -108,17 +108,11 @@ loop-again c =
     let r = c .before .before .before .before .before in
     links-more (l .inv) (c .before .before .before .before .before .before .loop-test .taken) (got .0 .0) (got .0 .1 .0) (link-says r _ (got .1)) (link-inside r _ (got .1))
 
-same-length-4 : tie.Need-same-length-4 Inv-loop μ-loop
-same-length-4 c = omega arith
-
-same-length-5 : tie.Need-same-length-5 Inv-loop μ-loop
-same-length-5 c = omega arith
-
-same-length-6 : tie.Need-same-length-6 Inv-loop μ-loop
-same-length-6 c = omega arith
+same-length-2 : tie.Need-same-length-2 Inv-loop μ-loop
+same-length-2 c = omega arith
 
 returns-2 : tie.Need-returns-2 Inv-loop μ-loop
-returns-2 c = (links-done (c .before .loop .inv) (omega (arith, c .before .loop .inv .within)), c .before .loop .inv .inside)
+returns-2 c = (links-done (c .before .loop .inv) (omega (arith, c .before .loop .inv .within)), (c .before .loop .inv .inside, c .before .loop .inv .arrays))
 
 pub read-links-spec : {M : Type 1} → statement M
 read-links-spec =
@@ -129,21 +123,19 @@ read-links-spec =
     loop-holds
     read-link-requires
     enum-known-l
-    cast-firsts
-    slice-write-firsts
-    cast-seconds
-    slice-write-seconds
+    cast-ends
+    index-1-ends
+    index-2-ends
+    cast-ends-2
+    index-1-ends-2
+    index-2-ends-2
     mul-weights
     slice-write-weights
     enum-known-n
     same-length
-    same-length-2
-    same-length-3
     returns
     add-k
     loop-less
     loop-again
-    same-length-4
-    same-length-5
-    same-length-6
+    same-length-2
     returns-2)

@@ -14,33 +14,6 @@ returns-2 c = let a = c .before .before .before .before .before .args in report-
 slice-aggregate-report-in : tie.Need-slice-aggregate-report-in
 slice-aggregate-report-in c = search needs
 
-slice-aggregate-report-in-2 : tie.Need-slice-aggregate-report-in-2
-slice-aggregate-report-in-2 c = search needs
-
-slice-aggregate-report-in-3 : tie.Need-slice-aggregate-report-in-3
-slice-aggregate-report-in-3 c = search needs
-
-slice-aggregate-report-in-4 : tie.Need-slice-aggregate-report-in-4
-slice-aggregate-report-in-4 c = search needs
-
-slice-aggregate-report-in-5 : tie.Need-slice-aggregate-report-in-5
-slice-aggregate-report-in-5 c = search needs
-
-slice-aggregate-report-in-6 : tie.Need-slice-aggregate-report-in-6
-slice-aggregate-report-in-6 c = search needs
-
-slice-aggregate-report-in-7 : tie.Need-slice-aggregate-report-in-7
-slice-aggregate-report-in-7 c = search needs
-
-slice-aggregate-report-in-8 : tie.Need-slice-aggregate-report-in-8
-slice-aggregate-report-in-8 c = search needs
-
-slice-aggregate-report-in-9 : tie.Need-slice-aggregate-report-in-9
-slice-aggregate-report-in-9 c = search needs
-
-slice-aggregate-report-in-10 : tie.Need-slice-aggregate-report-in-10
-slice-aggregate-report-in-10 c = search needs
-
 report-in-requires : tie.Need-report-in-requires
 report-in-requires c κs = search needs
 
@@ -52,30 +25,12 @@ same-length-2 c = search needs
 
 returns-3 : tie.Need-returns-3
 returns-3 c =
-    let r = c .before .before .before .before .before .before .before .before .before .before .before .before .before .before in
-    let two = r .before .before .before .before .before .before .before .before .before .before .before .before .before in
+    let r = c .before .before .before .before .before in
+    let two = r .before .before .before .before .before in
     let a = two .before .before .before .before .before .args in
     let e = r .report-in .ensures in
     sheet-decides (a .sheet .now) (a .side .now) (a .report .now) (omega (arith, two .before .if1 .left)) (omega (arith, two .if2 .left))
     (r .report-in .last .1 .0) (r .report-in .last .1 .1 .0) (r .report-in .result) (e .0) (e .1) (e .2)
 
 pub wcut-report-spec : {M : Type 1} → statement M
-wcut-report-spec =
-    tie.close
-    (tie.spec
-    returns
-    returns-2
-    slice-aggregate-report-in
-    slice-aggregate-report-in-2
-    slice-aggregate-report-in-3
-    slice-aggregate-report-in-4
-    slice-aggregate-report-in-5
-    slice-aggregate-report-in-6
-    slice-aggregate-report-in-7
-    slice-aggregate-report-in-8
-    slice-aggregate-report-in-9
-    slice-aggregate-report-in-10
-    report-in-requires
-    same-length
-    same-length-2
-    returns-3)
+wcut-report-spec = tie.close (tie.spec returns returns-2 slice-aggregate-report-in report-in-requires same-length same-length-2 returns-3)

@@ -2,7 +2,7 @@
 -- with as many links, and `place` is the position behind their records; a turn adds the share of the next record, whose map is a slice
 -- of the sheet. No load and no sum grows past 32 shares, each below 2^32. Assumes nothing.
 use Prim.Native.Nat.{ℕ, _+_, _-_, _/_, _≤_}
-use mathlib.Core.Path.{_≡_, sym, ap, _∙_}
+use mathlib.Core.Path.{_≡_, refl, ap, _∙_}
 use native.Mathlib.Omega.{arith}
 use lib.ListN.{length, take, drop, length-take, length-drop}
 use Rattle.cuts.specs.Bound.{load, shares}
@@ -20,20 +20,15 @@ abbrev μ-loop : tie.MeasureT-loop
 
 -- the entry, from the loop
 abbrev start : tie.At-loop Inv-loop μ-loop → tie.Start Inv-loop μ-loop
-start c = c .before .before .before .before .before .before .before
-
-clear-loads-requires : tie.Need-clear-loads-requires Inv-loop μ-loop
-clear-loads-requires c κs = tt
+start c = c .before .before .before
 
 add-size : tie.Need-add-size Inv-loop μ-loop
 add-size c = omega arith
 
 loop-holds : tie.Need-loop-holds Inv-loop μ-loop
 loop-holds c =
-    let a = c .before .before .before .before .before .before .args in
-    let p = c .before .before .before .before .before .before .pre in
-    let e = c .before .before .clear-loads .ensures in
-    (rw e (loaded-none (a .s .now) (a .at) (a .links) (length (a .loads .now)) (p .3)), omega arith)
+    let s = c .before .before in
+    (rw (s .pre .3) (loaded-none (s .args .s .now) (s .args .at) (s .args .links) 2048 refl), omega arith)
 
 -- the next record ends within the sheet
 whole : (c : tie.In-loop Inv-loop μ-loop) → let a = start (c .before) .args in c .before .loop .place + treeLength (a .links) ≤ length (a .s .now)
@@ -90,7 +85,7 @@ loop-again c =
     )
 
 same-length : tie.Need-same-length Inv-loop μ-loop
-same-length c = c .before .loop .inv .0 .sized ∙ sym (start (c .before) .pre .3)
+same-length c = rw (start (c .before) .pre .3) (c .before .loop .inv .0 .sized)
 
 returns : tie.Need-returns Inv-loop μ-loop
 returns c =
@@ -108,7 +103,6 @@ load-links-spec =
     (tie.spec
     Inv-loop
     μ-loop
-    clear-loads-requires
     add-size
     loop-holds
     four-requires

@@ -1,7 +1,8 @@
 -- `reader::read_sheet` meets its contract. The header is read as the definition reads it, and what follows is `read_body`'s.
 -- Assumes nothing.
-use mathlib.Core.Path.{_≡_, refl, sym, subst}
+use mathlib.Core.Path.{_≡_, sym, subst}
 use native.Mathlib.Omega.{arith}
+use borrow.Author.Needs.{needs}
 use lib.ListN.{drop}
 use Rattle.sheet.specs.Sheet.{headerRecord}
 use Rattle.records.specs.Answers.{countsOf, headerSays}
@@ -13,16 +14,16 @@ use Rattle.reader.proofs.read_sheet.Tie as tie
 
 -- the places on the way, each from a later one: the entry, where the header is read, where it was, and where the rest is read
 abbrev start : tie.After-read-header → tie.Start
-start c = c .before .before .before .before .before .before .before .before .before .before
+start c = c .before .before .before
 
 abbrev header : tie.After-c → tie.After-read-header
 header c = c .before .before
 
 abbrev counts : tie.After-read-body → tie.After-c
-counts c = c .before .before .before .before .before .before .before .before .before .before
+counts c = c .before .before .before .before
 
-abbrev body : tie.After-slice-known16 → tie.After-read-body
-body c = c .before .before .before .before .before .before .before .before .before .before .before .before .before .before .before .before
+abbrev body : tie.After-slice-known2 → tie.After-read-body
+body c = c .before .before
 
 read-header-requires : tie.Need-read-header-requires
 read-header-requires c κs = tt
@@ -35,39 +36,18 @@ header-says c r e = let s = start c .args .s .now in subst (λ (r : Header). hea
 
 read-body-requires : tie.Need-read-body-requires
 read-body-requires c κs =
-    let p = start (header (c .before .before .before .before .before .before .before .before .before)) .pre in
-    let s = start (header (c .before .before .before .before .before .before .before .before .before)) .args .s .now in
-    let got = c .before .before .before .before .before .before .before .before .before .c .given in
-    let told = header-says (header (c .before .before .before .before .before .before .before .before .before)) _ (got .1) in
+    let b = c .before .before .before in
+    let s = start (header b) .args .s .now in
+    let got = b .c .given in
+    let told = header-says (header b) _ (got .1) in
     let g = good-counts s (countsOf (got .0 .0)) (drop 5 s) (sym told) in
-    ((header-whole s (countsOf (got .0 .0)) (drop 5 s) told, (let b = g .nodes-least in omega arith), g .nodes-most, g .links-most), (p .0, p .1))
+    ((header-whole s (countsOf (got .0 .0)) (drop 5 s) told, (let b = g .nodes-least in omega arith), g .nodes-most, g .links-most), start (header b) .pre)
 
 enum-known-n : tie.Need-enum-known-n
 enum-known-n c = c .match .keys2
 
 same-length : tie.Need-same-length
-same-length c = body c .read-body .kept .1 .1 .0
-
-same-length-2 : tie.Need-same-length-2
-same-length-2 c = body c .read-body .kept .1 .1 .1 .0
-
-same-length-3 : tie.Need-same-length-3
-same-length-3 c = body c .read-body .kept .1 .1 .1 .1 .0
-
-same-length-4 : tie.Need-same-length-4
-same-length-4 c = body c .read-body .kept .1 .1 .1 .1 .1 .0
-
-same-length-5 : tie.Need-same-length-5
-same-length-5 c = body c .read-body .kept .1 .1 .1 .1 .1 .1 .0
-
-same-length-6 : tie.Need-same-length-6
-same-length-6 c = body c .read-body .kept .1 .1 .1 .1 .1 .1 .1 .0
-
-same-length-7 : tie.Need-same-length-7
-same-length-7 c = body c .read-body .kept .1 .1 .1 .1 .1 .1 .1 .1 .0
-
-same-length-8 : tie.Need-same-length-8
-same-length-8 c = body c .read-body .kept .1 .1 .1 .1 .1 .1 .1 .1 .1 .0
+same-length c = search needs
 
 returns : tie.Need-returns
 returns c =
@@ -77,7 +57,9 @@ returns c =
     (rw (← header-read s (countsOf (got .0 .0)) (header-says (header (counts (body c))) _ (got .1))) (r .0), r .1)
 
 returns-2 : tie.Need-returns-2
-returns-2 c = (refused-by-header (start (c .before .before .before) .args .s .now) (c .before .n .given .0 .0) (header-says (c .before .before .before) _ (c .before .n .given .1)), (tt, refl))
+returns-2 c =
+    let h = c .before .before .before in
+    (refused-by-header (start h .args .s .now) (c .before .n .given .0 .0) (header-says h _ (c .before .n .given .1)), (tt, start h .pre .0))
 
 pub read-sheet-spec : {M : Type 1} → statement M
 read-sheet-spec =
@@ -88,12 +70,5 @@ read-sheet-spec =
     read-body-requires
     enum-known-n
     same-length
-    same-length-2
-    same-length-3
-    same-length-4
-    same-length-5
-    same-length-6
-    same-length-7
-    same-length-8
     returns
     returns-2)

@@ -1,12 +1,15 @@
 -- `tree_records::read_tree` meets its contract. The four checks are made in their order, each by the callee whose contract says what it
 -- decides. Assumes nothing.
 use Prim.Native.Nat.{ℕ, _+_, _-_, _/_, _≤_}
-use mathlib.Core.Path.{_≡_, refl, sym, ap, _∙_}
+use mathlib.Core.Path.{_≡_, sym, ap, _∙_}
 use native.Mathlib.Omega.{arith}
 use borrow.Author.Needs.{needs}
 use lib.ListN.{length, take, drop}
 use Rattle.cuts.specs.Sums.{table}
 use Rattle.cuts.specs.Network.{Network, linkCount}
+use Rattle.cuts.specs.Tree.{spans}
+use Rattle.trees.specs.Order.{part}
+use Rattle.trees.specs.Growing.{Held}
 use Rattle.sheet.specs.Bytes.{Bytes, mapBit}
 use Rattle.sheet.specs.Reading.{firstFailing}
 use Rattle.sheet.specs.Sheet.{mapLength, treeLength, treeIn, mapChecks}
@@ -16,16 +19,16 @@ use Rattle.reader.proofs.tree_records.read_tree.Tie as tie
 
 -- the places on the way, each from a later one: the entry, a record that is not cut off, a map that passed, and a tree that has grown
 abbrev start : tie.Else1 → tie.Start
-start c = c .before .before .before .before .before .before .before .before .before
+start c = c .before .before
 
 abbrev uncut : tie.After-map-refusal → tie.Else1
 uncut c = c .before .before
 
 abbrev passed : tie.After-grow-tree → tie.Else2
-passed c = c .before .before .before .before .before .before
+passed c = c .before
 
-abbrev grown : tie.After-slice-known10 → tie.After-grow-tree
-grown c = c .before .before .before .before .before .before .before .before .before .before
+abbrev begun : tie.After-grow-tree → tie.Start
+begun c = start (uncut (passed c .before))
 
 add-size : tie.Need-add-size
 add-size c = search needs
@@ -38,8 +41,8 @@ add-if1 c = search needs
 
 returns : tie.Need-returns
 returns c =
-    let a = c .before .before .before .before .before .before .before .before .before .args in
-    (λ net h n. cut-off-at net (a .s .now) (a .at) (omega arith), (omega arith, refl))
+    let a = c .before .before .args in
+    (λ net h n. cut-off-at net (a .s .now) (a .at) (omega arith), omega arith)
 
 add-map-at : tie.Need-add-map-at
 add-map-at c = search needs
@@ -86,68 +89,46 @@ returns-2 c =
     let a = start b .args in (
       λ net h n. refused-at net (a .s .now) _ (a .at) (slice b net n) (whole b net n) (c .before .map-refusal .result)
           (same-checks _ (a .nodes) (a .links) net (h .sized) n _ (c .before .map-refusal .ensures)) (c .if2 .taken),
-      (let z = c .if2 .taken in omega arith, refl),
+      (let z = c .if2 .taken in omega arith),
     )
 
 grow-tree-requires : tie.Need-grow-tree-requires
 grow-tree-requires c κs =
-    let passes = sym (c .before .before .before .before .before .before .map-refusal .ensures) ∙ c .before .before .before .before .before .if2 .left in
-    let p = start (uncut (c .before .before .before .before .before .before)) .pre in
-    ((search needs, map-counted _ _ _ passes, p .0 .1, p .0 .2), (p .1 .0, p .1 .1))
+    let passes = sym (c .before .map-refusal .ensures) ∙ c .if2 .left in
+    let p = start (uncut (c .before)) .pre in
+    ((search needs, map-counted _ _ _ passes, p .0 .1, p .0 .2, p .0 .3), p .1)
 
-same-length : tie.Need-same-length
-same-length c = grown (c .before) .grow-tree .kept .1 .1 .1 .1 .1 .0
+-- the map that passed, and what growing the tree told
+module _ (c : tie.After-grow-tree) (net : Network) (h : Held net (part (begun c .args .ends .now) 0) (part (begun c .args .ends .now) 1) (begun c .args .nodes))
+    (n : linkCount net ≡ begun c .args .links) where
+  passes : let a = begun c .args in
+      firstFailing (mapChecks (net .nodes) (linkCount net) (take (a .at + 4 + (a .links + 7) / 8 - (a .at + 4)) (drop (a .at + 4) (a .s .now)))) ≡ 0
+  passes =
+      let a = begun c .args in
+      let none = sym (passed c .before .map-refusal .ensures) ∙ passed c .if2 .left in
+      sym (same-checks _ (a .nodes) (a .links) net (h .sized) n 0 (sym none))
 
-same-length-2 : tie.Need-same-length-2
-same-length-2 c = grown (c .before) .grow-tree .kept .1 .1 .1 .1 .1 .1 .0
-
-same-length-3 : tie.Need-same-length-3
-same-length-3 c = grown (c .before) .grow-tree .kept .1 .1 .1 .1 .1 .1 .1 .0
-
-same-length-4 : tie.Need-same-length-4
-same-length-4 c = grown (c .before) .grow-tree .kept .1 .1 .1 .1 .1 .1 .1 .1 .0
-
-same-length-5 : tie.Need-same-length-5
-same-length-5 c = grown (c .before) .grow-tree .kept .1 .1 .1 .1 .1 .1 .1 .1 .1 .0
+  joined : let a = begun c .args in c .grow-tree .result .joined ≡ spans net (treeIn net (drop (a .at) (a .s .now)))
+  joined =
+      let a = begun c .args in
+      c .grow-tree .ensures net (treeIn net (drop (a .at) (a .s .now))) h n (members (uncut (passed c .before)) net n) .joined
 
 returns-3 : tie.Need-returns-3
 returns-3 c =
-    let b = uncut (passed (grown (c .before)) .before) in
-    let a = start b .args in
-    let g = grown (c .before) .grow-tree in
-    let none = sym (passed (grown (c .before)) .before .map-refusal .ensures) ∙ passed (grown (c .before)) .if2 .left in (
+    let b = uncut (passed (c .before) .before) in
+    let a = start b .args in (
       λ net h n.
-          read-at net (a .s .now) _ (a .at) (slice b net n) (whole b net n) (sym (same-checks _ (a .nodes) (a .links) net (h .sized) n 0 (sym none)))
-          (a .at + 4 + (a .links + 7) / 8) (omega arith)
-          (sym (c .if3 .taken) ∙ g .ensures .0 net (treeIn net (drop (a .at) (a .s .now))) h n (members b net n) .grown .joined),
-      (omega arith, g .ensures .1),
+          read-at net (a .s .now) _ (a .at) (slice b net n) (whole b net n) (passes (c .before) net h n) (a .at + 4 + (a .links + 7) / 8) (omega arith)
+          (sym (c .if3 .taken) ∙ joined (c .before) net h n),
+      (omega arith),
     )
-
-same-length-6 : tie.Need-same-length-6
-same-length-6 c = grown (c .before) .grow-tree .kept .1 .1 .1 .1 .1 .0
-
-same-length-7 : tie.Need-same-length-7
-same-length-7 c = grown (c .before) .grow-tree .kept .1 .1 .1 .1 .1 .1 .0
-
-same-length-8 : tie.Need-same-length-8
-same-length-8 c = grown (c .before) .grow-tree .kept .1 .1 .1 .1 .1 .1 .1 .0
-
-same-length-9 : tie.Need-same-length-9
-same-length-9 c = grown (c .before) .grow-tree .kept .1 .1 .1 .1 .1 .1 .1 .1 .0
-
-same-length-10 : tie.Need-same-length-10
-same-length-10 c = grown (c .before) .grow-tree .kept .1 .1 .1 .1 .1 .1 .1 .1 .1 .0
 
 returns-4 : tie.Need-returns-4
 returns-4 c =
-    let b = uncut (passed (grown (c .before)) .before) in
-    let a = start b .args in
-    let g = grown (c .before) .grow-tree in
-    let none = sym (passed (grown (c .before)) .before .map-refusal .ensures) ∙ passed (grown (c .before)) .if2 .left in (
-      λ net h n.
-          apart-at net (a .s .now) _ (a .at) (slice b net n) (whole b net n) (sym (same-checks _ (a .nodes) (a .links) net (h .sized) n 0 (sym none)))
-          (sym (c .if3 .left) ∙ g .ensures .0 net (treeIn net (drop (a .at) (a .s .now))) h n (members b net n) .grown .joined),
-      (omega arith, g .ensures .1),
+    let b = uncut (passed (c .before) .before) in
+    let a = start b .args in (
+      λ net h n. apart-at net (a .s .now) _ (a .at) (slice b net n) (whole b net n) (passes (c .before) net h n) (sym (c .if3 .left) ∙ joined (c .before) net h n),
+      (omega arith),
     )
 
 pub read-tree-spec : {M : Type 1} → statement M
@@ -166,15 +147,5 @@ read-tree-spec =
     map-refusal-requires
     returns-2
     grow-tree-requires
-    same-length
-    same-length-2
-    same-length-3
-    same-length-4
-    same-length-5
     returns-3
-    same-length-6
-    same-length-7
-    same-length-8
-    same-length-9
-    same-length-10
     returns-4)

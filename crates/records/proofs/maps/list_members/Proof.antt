@@ -1,5 +1,5 @@
 -- `maps::list_members` meets its contract. The loop's invariant: of the links below k those whose bits are set are listed, and `found` is
--- their number; link k is added behind them where its bit is set. Assumes nothing.
+-- their number; link k is written behind them, and kept where its bit is set. Assumes nothing.
 use Prim.Native.Nat.{ℕ, _+_, _*_, _-_, _≤_, _<_}
 use mathlib.Core.Path.{_≡_, refl, sym, ap, _∙_}
 use mathlib.Core.Logic.{⊎-elim}
@@ -20,23 +20,22 @@ record Listing (map : Bytes) (links room : ℕ) (members : List ℕ) (found k : 
   counted : found ≡ countTo k (mapBit map)
   listed : take found members ≡ select k (mapBit map)
   sized : length members ≡ room
+  free : found < room
   few : found ≤ k
   within : k ≤ links
   held : links ≤ 8 * length map
   most : links ≤ 2048
-  fits : countTo links (mapBit map) ≤ room
+  fits : countTo links (mapBit map) < room
 
 -- one bit more
 module _ {map : Bytes} {links room : ℕ} {members : List ℕ} {found k : ℕ} (l : Listing map links room members found k) (more : k < links) where
-  set-room : mapBit map k ≡ true → found < length members
-  set-room h = let m = count-rises links k (mapBit map) more h in omega arith
-
   set-more : mapBit map k ≡ true → Listing map links room (set members found k) (found + 1) (k + 1)
   unfolding sumTo
-  set-more h = record {
+  set-more h = let m = count-rises links k (mapBit map) more h in record {
     counted = rw (add-one k, h) (ap (λ (n : ℕ). n + 1) (l .counted));
-    listed = list-set map k found members (l .listed) h (set-room h);
+    listed = list-set map k found members (l .listed) h (omega arith);
     sized = length-set members found k ∙ l .sized;
+    free = omega arith;
     few = omega arith;
     within = omega arith;
     held = l .held;
@@ -44,12 +43,13 @@ module _ {map : Bytes} {links room : ℕ} {members : List ℕ} {found k : ℕ} (
     fits = l .fits;
   }
 
-  unset-more : mapBit map k ≡ false → Listing map links room members found (k + 1)
+  unset-more : mapBit map k ≡ false → Listing map links room (set members found k) found (k + 1)
   unfolding sumTo
   unset-more h = record {
     counted = rw (add-one k, h) (omega arith);
     listed = list-unset map k found members (l .listed) h;
-    sized = l .sized;
+    sized = length-set members found k ∙ l .sized;
+    free = l .free;
     few = omega arith;
     within = omega arith;
     held = l .held;
@@ -65,10 +65,7 @@ abbrev μ-loop : tie.MeasureT-loop
 
 loop-holds : tie.Need-loop-holds Inv-loop μ-loop
 unfolding sumTo select
-loop-holds c = record { counted = refl; listed = refl; sized = refl; few = omega arith; within = omega arith; held = omega arith; most = omega arith; fits = c .before .before .pre .1 }
-
-bit-set-requires : tie.Need-bit-set-requires Inv-loop μ-loop
-bit-set-requires c κs = omega arith
+loop-holds c = record { counted = refl; listed = refl; sized = refl; free = omega (arith, c .before .before .pre .1); few = omega arith; within = omega arith; held = omega arith; most = omega arith; fits = c .before .before .pre .1 }
 
 cast-members : tie.Need-cast-members Inv-loop μ-loop
 cast-members c = omega arith
@@ -76,14 +73,14 @@ cast-members c = omega arith
 mul-members : tie.Need-mul-members Inv-loop μ-loop
 mul-members c = omega arith
 
-free : (c : tie.Then1 Inv-loop μ-loop) → c .before .before .before .loop .found < length (c .before .before .before .loop .members)
-free c = set-room (c .before .before .before .loop .inv) (c .before .before .loop-test .taken) (sym (c .before .bit-set .ensures) ∙ c .if1 .taken)
-
 slice-write-members : tie.Need-slice-write-members Inv-loop μ-loop
-slice-write-members c = free c
+slice-write-members c = omega arith
+
+bit-set-requires : tie.Need-bit-set-requires Inv-loop μ-loop
+bit-set-requires c κs = omega arith
 
 add-found : tie.Need-add-found Inv-loop μ-loop
-add-found c = omega (arith, free c)
+add-found c = omega arith
 
 add-k : tie.Need-add-k Inv-loop μ-loop
 add-k c = omega arith
@@ -96,8 +93,8 @@ loop-again c =
     let l = c .before .before .before .loop in
     let more = c .before .before .loop-test .taken in
     ⊎-elim
-    (λ w. rw (w .1, w .2) (set-more (l .inv) more (sym (c .before .bit-set .ensures) ∙ w .0 .taken)))
-    (λ w. rw (w .1, w .2) (unset-more (l .inv) more (sym (c .before .bit-set .ensures) ∙ w .0 .left)))
+    (λ w. rw (w .1) (set-more (l .inv) more (sym (c .before .bit-set .ensures) ∙ w .0 .taken)))
+    (λ w. rw (w .1) (unset-more (l .inv) more (sym (c .before .bit-set .ensures) ∙ w .0 .left)))
     (c .if1 .came)
 
 same-length : tie.Need-same-length Inv-loop μ-loop
@@ -117,10 +114,10 @@ list-members-spec =
     Inv-loop
     μ-loop
     loop-holds
-    bit-set-requires
     cast-members
     mul-members
     slice-write-members
+    bit-set-requires
     add-found
     add-k
     loop-less

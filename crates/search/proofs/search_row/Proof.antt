@@ -1,0 +1,129 @@
+-- `search::search_row` meets its contract. The loop's invariant: what is found is the first of what was reached up to column v.
+-- Assumes nothing.
+use Prim.Native.Nat.{ℕ, _-_, _≤_, _<_}
+use mathlib.Core.Path.{_≡_, subst, sym, _∙_}
+use mathlib.Core.List.{List}
+use native.Mathlib.Omega.{arith}
+use Rattle.cuts.specs.Network.{Network, Tree}
+use Rattle.cuts.specs.Candidate.{Candidate, lighter}
+use Rattle.places.specs.Kept.{Kept}
+use Rattle.rows.specs.Rows.{Light, Row}
+use Rattle.rows.proofs.PartLaws.{singlesIn-at}
+use Rattle.choice.specs.Rows.{Reached}
+use Rattle.choice.proofs.PrecedesLaws.{lighter-order}
+use Rattle.choice.proofs.ReachedLaws.{reached-row, reached-step}
+use Rattle.search.proofs.PairLaws.{pair-at, alone-at}
+use Rattle.search.proofs.search_row.Statement.{statement}
+use Rattle.search.proofs.search_row.Tie as tie
+
+abbrev Inv-loop : tie.InvT-loop
+Inv-loop figures stops links nodes tree u link best₀ v₀ best v =
+    (u < v) × (v ≤ nodes) × ((net : Network) (t : Tree) (c : Candidate) (place node : List ℕ) → Light net → net .nodes ≡ nodes
+    → Kept net t place node stops links → Row net t place stops links u figures
+    → Reached lighter c net tree t links u v₀ best₀ → Reached lighter c net tree t links u v best)
+
+abbrev μ-loop : tie.MeasureT-loop
+μ-loop figures stops links nodes tree u link best₀ v₀ best v = nodes - v
+
+-- where the function begins, from where the link alone was tried
+abbrev start : tie.After-try-pair Inv-loop μ-loop → tie.Start Inv-loop μ-loop
+start c = c .before .before .before .before .before .before
+
+mul-link : tie.Need-mul-link Inv-loop μ-loop
+mul-link c = omega arith
+
+shared-slice-read-link : tie.Need-shared-slice-read-link Inv-loop μ-loop
+shared-slice-read-link c = omega arith
+
+add-try-pair : tie.Need-add-try-pair Inv-loop μ-loop
+add-try-pair c = omega arith
+
+mul-try-pair : tie.Need-mul-try-pair Inv-loop μ-loop
+mul-try-pair c = omega arith
+
+shared-slice-read-try-pair : tie.Need-shared-slice-read-try-pair Inv-loop μ-loop
+shared-slice-read-try-pair c = omega arith
+
+try-pair-requires : tie.Need-try-pair-requires Inv-loop μ-loop
+try-pair-requires c κs = tt
+
+add-v : tie.Need-add-v Inv-loop μ-loop
+add-v c = omega arith
+
+loop-holds : tie.Need-loop-holds Inv-loop μ-loop
+loop-holds c = (omega arith, omega arith, λ net t x place node i n k w r. r)
+
+pair-weight-requires : tie.Need-pair-weight-requires Inv-loop μ-loop
+pair-weight-requires c κs =
+    let s = start (c .before .before) in
+    (s .pre .0, s .pre .1, s .pre .2, c .before .loop .inv .0, omega arith)
+
+mul-try-pair-2 : tie.Need-mul-try-pair-2 Inv-loop μ-loop
+mul-try-pair-2 c = omega arith
+
+shared-slice-read-try-pair-2 : tie.Need-shared-slice-read-try-pair-2 Inv-loop μ-loop
+shared-slice-read-try-pair-2 c = omega arith
+
+try-pair-requires-2 : tie.Need-try-pair-requires-2 Inv-loop μ-loop
+try-pair-requires-2 c κs = tt
+
+add-v-2 : tie.Need-add-v-2 Inv-loop μ-loop
+add-v-2 c = omega arith
+
+loop-less : tie.Need-loop-less Inv-loop μ-loop
+loop-less c = omega arith
+
+loop-again : tie.Need-loop-again Inv-loop μ-loop
+loop-again c =
+    let b = c .before .before .before .before in
+    let l = b .loop in
+    let s = start (b .before) in
+    let u = s .args .u in (
+      omega arith,
+      omega arith,
+      λ net t x place node i n k w r.
+          let q : l .v < net .nodes = omega arith in
+          let z : 0 < u = s .pre .5 in
+          reached-step lighter-order u (l .v) _ z (omega arith) q
+          (c .before .before .pair-weight .ensures net t place node (s .args .links .now) i k w z q ∙ pair-at (k .links-at) u (l .v) z (l .inv .0) q)
+          (l .inv .2 net t x place node i n k w r)
+          (c .try-pair2 .ensures),
+    )
+
+returns : tie.Need-returns Inv-loop μ-loop
+returns c =
+    λ net t x place node i n k w r.
+    let l = c .before .loop in
+    let f = c .before .before in
+    let s = start f in
+    let u = s .args .u in
+    let z : 0 < u = s .pre .5 in
+    let d : u < net .nodes = omega (arith, s .pre .6) in
+    let all : l .v ≡ s .args .nodes = let b = l .inv .1 in let d = c .loop-test .left in omega arith in
+    subst (λ (v : ℕ). Reached lighter x net (s .args .tree) t (s .args .links .now) u v (l .best)) all
+    (l .inv .2 net t x place node i n k w
+    (reached-step lighter-order u u _ z (omega arith) d (sym (singlesIn-at (s .args .figures .now) u (omega arith)) ∙ w .alone u (omega arith) d ∙ alone-at net t (s .args .links .now) u)
+    (reached-row u (s .args .nodes) (omega arith) r) (f .try-pair .ensures)))
+
+pub search-row-spec : {M : Type 1} → statement M
+search-row-spec =
+    tie.close
+    (tie.spec
+    Inv-loop
+    μ-loop
+    mul-link
+    shared-slice-read-link
+    add-try-pair
+    mul-try-pair
+    shared-slice-read-try-pair
+    try-pair-requires
+    add-v
+    loop-holds
+    pair-weight-requires
+    mul-try-pair-2
+    shared-slice-read-try-pair-2
+    try-pair-requires-2
+    add-v-2
+    loop-less
+    loop-again
+    returns)
