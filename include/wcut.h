@@ -2,8 +2,8 @@
  * The weakest-cut monitor: from a serialised network, the link sheet, to the lightest cut that crosses at most two links of some
  * listed spanning tree, and whether it is provably the lightest cut of the whole network. docs/ENTRY.md has the layouts and the cost.
  *
- * Link with libmonitor.a, which is for x86-64 and its System V calling convention; it needs memset. The entry keeps no state, allocates
- * nothing, and takes 33,280 bytes of stack.
+ * Link with libmonitor.a, which is for x86-64 and its System V calling convention; it needs memset and memcpy. The entry keeps no state,
+ * allocates nothing, and takes 52,608 bytes of stack.
  */
 #ifndef WCUT_H
 #define WCUT_H
