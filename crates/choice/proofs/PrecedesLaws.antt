@@ -1,4 +1,4 @@
--- The tests decide the order of candidates, handle by handle, tree by tree and by weight, and each of them is an order.
+-- Where a candidate comes before another, handle by handle, tree by tree and by weight, the tests say so; and each test is an order.
 -- Assumes nothing.
 use Prim.Native.Nat.{ℕ, suc, _<_}
 use mathlib.Core.Path.{_≡_}
@@ -13,7 +13,7 @@ use Rattle.cuts.proofs.Least.{Order, by-key}
 use Rattle.choice.specs.Choice.{lead, rest, sooner, earlier, comesFirst}
 use Rattle.choice.proofs.OrderLaws.{then-order, by-number-in}
 
--- ---- what the tests decide
+-- ---- what the tests say
 
 pub sooner-in : (g h : Handle) → Sooner g h → sooner g h ≡ true
 unfolding sooner

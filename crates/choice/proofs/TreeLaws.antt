@@ -1,5 +1,5 @@
--- The first of what was visited is the first lightest of a list: of what was found before and one tree's candidates, and of those of all
--- trees so far; and the candidates of the next tree join.
+-- The first of what was found before and one tree's candidates, visited in any order, is the first lightest of the list; and what was
+-- visited tree after tree is prior to the next one.
 -- Assumes nothing.
 use Prim.Native.Nat.{ℕ, suc, _+_, _<_}
 use mathlib.Core.Path.{_≡_, refl, sym, ap, _∙_, subst}
@@ -17,8 +17,8 @@ use Rattle.cuts.proofs.ListLaws.{Each, each-map}
 use Rattle.cuts.proofs.Least.{Order}
 use Rattle.cuts.proofs.Handles.{handle-of, handles-order, members-rising}
 use Rattle.choice.specs.Choice.{FirstOf, earlier, comesFirst, treeCandidates, firstTrees, Prior, Visited}
-use Rattle.choice.proofs.OrderLaws.{first-same, first-alone, first-brings, first-listed}
-use Rattle.choice.proofs.PrecedesLaws.{earlier-in, comesFirst-order}
+use Rattle.choice.proofs.OrderLaws.{first-same, first-brings, first-listed}
+use Rattle.choice.proofs.PrecedesLaws.{earlier-in}
 
 each-mono : {A : Type 0} {R S : A → A → Type 0} → ((x y : A) → R x y → S x y) → (xs : List A) → Each R xs → Each S xs
 each-mono h [] r = tt
@@ -83,28 +83,6 @@ module _ (net : Network) (c : Candidate) (i : ℕ) (b : i < length (net .trees))
   visited-in (inl (inl e)) = inl e
   visited-in (inl (inr m)) = inr (subst (List·Memᴰ x) (sym (firstTrees-next net i b)) (Memᴰ·append-left (treeCandidates net i (treeAt net i)) m))
   visited-in (inr m) = inr (subst (List·Memᴰ x) (sym (firstTrees-next net i b)) (Memᴰ·append-right (firstTrees net i) m))
-
-  visited-of : Visited net c (i + 1) x → Visited net c i x ⊎ List·Memᴰ x (treeCandidates net i (treeAt net i))
-  visited-of (inl e) = inl (inl e)
-  visited-of (inr m) = split (List·Memᴰ·append-cases (firstTrees net i) (subst (List·Memᴰ x) (firstTrees-next net i b) m))
-    where
-      split : List·Memᴰ x (firstTrees net i) ⊎ List·Memᴰ x (treeCandidates net i (treeAt net i)) → Visited net c i x ⊎ List·Memᴰ x (treeCandidates net i (treeAt net i))
-      split (inl m) = inl (inr m)
-      split (inr m) = inr m
-
-module _ {before : Candidate → Candidate → Bool} (o : Order before) (net : Network) (c : Candidate) where
-  pub trees-start : FirstOf (comesFirst before) (Visited net c 0) c
-  unfolding candidatesFrom
-  trees-start = first-same (λ x e. inl e) of (first-alone (comesFirst-order o) c)
-    where
-      of : (x : Candidate) → Visited net c 0 x → x ≡ c
-      of x (inl e) = e
-      of x (inr m) = absurd (List·Memᴰ·not-nil m)
-
-  -- the candidates of the next tree join
-  pub trees-next : (i : ℕ) → i < length (net .trees) → {f : Candidate}
-      → FirstOf (comesFirst before) (λ x. Visited net c i x ⊎ List·Memᴰ x (treeCandidates net i (treeAt net i))) f → FirstOf (comesFirst before) (Visited net c (i + 1)) f
-  trees-next i b = first-same (λ x m. visited-in net c i b x m) (λ x m. visited-of net c i b x m)
 
 -- ---- what was visited before a tree is prior to it
 

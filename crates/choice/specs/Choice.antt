@@ -3,9 +3,9 @@
 --   FirstOf before among c   c is one of those `among`, and none of them comes before it
 --   lead h                   the first link that the handle h names
 --   rest h                   what decides where these are equal: 0 for one link, for two one more than the second
---   sooner g h               decides Sooner
---   earlier c d              decides Earlier
---   comesFirst before c d    `before`, and of even ones the earlier; with `lighter` it decides Precedes
+--   sooner g h               Sooner as a test
+--   earlier c d              Earlier as a test
+--   comesFirst before c d    `before`, and of even ones the earlier; with `lighter`, Precedes as a test
 --   treeCandidates net i t   all candidates of tree i, which is t, in their order
 --   firstTrees net i         all of the trees below i, in their order
 --   Visited net c i x        x is c, or one of these
