@@ -6,6 +6,7 @@ pub mod CutLaws
 pub mod Spanning
 pub mod Crossings
 pub mod LoadLaws
+pub mod LimitLaws
 pub mod Packing
 pub mod Least
 pub mod Handles

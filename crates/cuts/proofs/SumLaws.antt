@@ -65,6 +65,15 @@ unfolding sumTo
 sum-mono zero f g h = omega arith
 sum-mono (suc n) f g h = let r = sum-mono n f g (λ k b. h k (omega arith)) in omega (arith, h n (omega arith))
 
+pub sum-less : (m n : ℕ) (f : ℕ → ℕ) → m ≤ n → sumTo m f ≤ sumTo n f
+unfolding sumTo
+sum-less m zero f h = let e : m ≡ 0 = omega arith in rw e (omega arith)
+sum-less m (suc n) f h = step (eq-or-lt-of-le h) (sum-less m n f)
+  where
+    step : (m ≡ suc n) ⊎ (m < suc n) → (m ≤ n → sumTo m f ≤ sumTo n f) → sumTo m f ≤ sumTo n f + f n
+    step (inl e) r = rw e (omega arith)
+    step (inr l) r = let s = r (omega arith) in omega arith
+
 pub sum-add : (n : ℕ) (f g : ℕ → ℕ) → sumTo n (λ k. f k + g k) ≡ sumTo n f + sumTo n g
 unfolding sumTo
 sum-add zero f g = refl

@@ -5,6 +5,7 @@ pub mod Cut
 pub mod Tree
 pub mod Candidate
 pub mod Bound
+pub mod Limits
 pub mod Answer
 pub mod Paths
 pub mod Demands

@@ -10,10 +10,11 @@ use lib.Dec.{eqb}
 use borrow.Author.Tests.{eqb-true}
 use Rattle.cuts.specs.Sums.{sumTo, only}
 use Rattle.cuts.specs.Network.{Network, linkCount}
+use Rattle.cuts.specs.Limits.{Light}
 use Rattle.cuts.proofs.FlagLaws.{clash, truth, xor-comm}
 use Rattle.cuts.proofs.SumLaws.{sum-congr, sum-mono, sum-add, sum-const}
 use Rattle.places.specs.Kept.{within}
-use Rattle.rows.specs.Rows.{sumOver, weightAt, firstPlace, secondPlace, tally, degree, crossing, Light}
+use Rattle.rows.specs.Rows.{sumOver, weightAt, firstPlace, secondPlace, tally, degree, crossing}
 use Rattle.rows.proofs.OverLaws.{within-is, within-join, over-congr, over-add, over-only, over-swap, over-pick}
 
 at-most : (b : Bool) (w : ℕ) → only b w ≤ w

@@ -11,10 +11,11 @@ use lib.ListN.{length, set, replicate}
 use lib.Seq.{getD-set-same, getD-set-other}
 use Rattle.cuts.specs.Network.{Tree, Network}
 use Rattle.cuts.specs.Candidate.{one, weightOf}
+use Rattle.cuts.specs.Limits.{Light}
 use Rattle.trees.specs.Order.{entry}
 use Rattle.trees.specs.Growing.{Laid}
 use Rattle.places.specs.Kept.{Kept}
-use Rattle.rows.specs.Rows.{tally, paired, Light, talliesIn, singlesIn, sumsIn, Added, Tallied, Summed, Row}
+use Rattle.rows.specs.Rows.{tally, paired, talliesIn, singlesIn, sumsIn, Added, Tallied, Summed, Row}
 use Rattle.rows.proofs.StopLaws.{stops-nest}
 use Rattle.rows.proofs.CrossLaws.{tally-join, tally-none, tally-small, crossing-small}
 use Rattle.rows.proofs.PairLaws.{single-sum, pair-sum, pair-room}

@@ -10,8 +10,9 @@ use native.Mathlib.Omega.{arith}
 use lib.ListN.{length, set, length-set}
 use lib.Seq.{length-take-le, getD-set-same, getD-set-other, take-set-lt}
 use Rattle.cuts.specs.Network.{Network}
+use Rattle.cuts.specs.Limits.{Light}
 use Rattle.trees.specs.Order.{entry}
-use Rattle.rows.specs.Rows.{sumOver, crossing, Light, Weighted, degreesIn, talliesIn, sumsIn, Tallied, Summed}
+use Rattle.rows.specs.Rows.{sumOver, crossing, Weighted, degreesIn, talliesIn, sumsIn, Tallied, Summed}
 use Rattle.rows.proofs.OverLaws.{within-in, within-behind, over-none, over-suc}
 use Rattle.rows.proofs.CrossLaws.{tally-most, crossing-small}
 use Rattle.rows.proofs.WrapLaws.{wrap-add, wrap-sub}

@@ -10,7 +10,6 @@
 --   crossing net pl from to y      the weight of the links at the place y that cross the places from, .., to - 1: at one of them the
 --                                  degree less the tally, elsewhere the tally
 --   paired e f                     the handle of two links, the lower number first
---   Light net                      there are at most 2,048 links, each of a weight below 2^32
 --   Loopless net                   no link joins a node to itself
 --   AllByNode fs ss hs ls n        the links 0, .., m - 1, for some m up to 2,048, are listed by node, and the n nodes have their ends
 --   Indexed net es ws ls n m       the arrays hold the network, which has n nodes and m links, is light and loopless, and list its links
@@ -37,6 +36,7 @@ use lib.Dec.{eqb, leb, ltb}
 use Rattle.cuts.specs.Sums.{sumTo, only, table}
 use Rattle.cuts.specs.Network.{Tree, Network, linkAt, linkCount}
 use Rattle.cuts.specs.Candidate.{Handle, one, two, weightOf}
+use Rattle.cuts.specs.Limits.{Light}
 use Rattle.trees.specs.Order.{entry, part}
 use Rattle.trees.specs.Growing.{Laid}
 use Rattle.growth.specs.ByNode.{ByNode, starts, listed}
@@ -79,10 +79,6 @@ abbrev pub paired : ℕ → ℕ → Handle
 paired e f = cond (ltb e f) (two e f) (two f e)
 
 -- ---- the network
-
-pub record Light (net : Network) : Type 0 where
-  pub few : linkCount net ≤ 2_048
-  pub small : (k : ℕ) → k < linkCount net → weightAt net k < 2 ^ 32
 
 abbrev pub Loopless : Network → Type 0
 Loopless net = (k : ℕ) → k < linkCount net → linkAt net k .first ≡ linkAt net k .second → ⊥

@@ -17,11 +17,12 @@ ghost use lib.ListN.{length, set, replicate};
 ghost use Rattle.cuts.specs.Sums.{table};
 ghost use Rattle.cuts.specs.Network.{Network, Tree};
 ghost use Rattle.cuts.specs.Candidate.{weightOf};
+ghost use Rattle.cuts.specs.Limits.{Light};
 ghost use Rattle.trees.specs.Order.{entry, part};
 ghost use Rattle.trees.specs.Growing.{Laid, Within};
 ghost use Rattle.growth.specs.ByNode.{ByNode, starts, listed};
 ghost use Rattle.places.specs.Kept.{Kept};
-ghost use Rattle.rows.specs.Rows.{paired, Light, Loopless, AllByNode, Indexed, Weighted, degreesIn, talliesIn, singlesIn, sumsIn, Added, Tallied, Summed, Row};
+ghost use Rattle.rows.specs.Rows.{paired, Loopless, AllByNode, Indexed, Weighted, degreesIn, talliesIn, singlesIn, sumsIn, Added, Tallied, Summed, Row};
 
 // What `from` has for the node at each place.
 pub fn gather(out: &mut [u64], node: &[u8], from: &[u64])

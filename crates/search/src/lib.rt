@@ -14,11 +14,12 @@ ghost use lib.ListN.{length};
 ghost use Rattle.cuts.specs.First.{firstFrom};
 ghost use Rattle.cuts.specs.Network.{Network, Tree};
 ghost use Rattle.cuts.specs.Candidate.{Candidate, lighter};
+ghost use Rattle.cuts.specs.Limits.{Light};
 ghost use Rattle.trees.specs.Order.{entry, part};
 ghost use Rattle.trees.specs.Growing.{Within};
 ghost use Rattle.growth.specs.ByNode.{starts, listed};
 ghost use Rattle.places.specs.Kept.{Kept};
-ghost use Rattle.rows.specs.Rows.{Light, AllByNode, Indexed, Degrees, Weighted, degreesIn, Row};
+ghost use Rattle.rows.specs.Rows.{AllByNode, Indexed, Degrees, Weighted, degreesIn, Row};
 ghost use Rattle.choice.specs.Choice.{Says, Prior, treeCandidates};
 ghost use Rattle.choice.specs.Rows.{Reached};
 

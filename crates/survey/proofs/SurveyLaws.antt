@@ -1,6 +1,6 @@
 -- Tree records by the map in each, and the candidates of the trees still to come.
 -- Assumes nothing.
-use Prim.Native.Nat.{ℕ, _+_, _-_, _*_, _/_, _≤_, _<_}
+use Prim.Native.Nat.{ℕ, _+_, _-_, _/_, _≤_, _<_}
 use mathlib.Core.Path.{_≡_, refl, sym, ap, _∙_, subst}
 use mathlib.Core.Logic.{inl}
 use mathlib.Core.Bool.{Bool, true}
@@ -14,6 +14,8 @@ use Rattle.cuts.specs.Sums.{only, countTo, table}
 use Rattle.cuts.specs.First.{firstFrom}
 use Rattle.cuts.specs.Network.{Tree, Network, noTree, linkCount, treeAt}
 use Rattle.cuts.specs.Cut.{cutWeight}
+use Rattle.cuts.specs.Tree.{Sound}
+use Rattle.cuts.specs.Limits.{Light}
 use Rattle.cuts.specs.Candidate.{Candidate, candidate, candidatesFrom, candidates, lighter, noCandidate, sideOf}
 use Rattle.cuts.specs.Answer.{answer, judged}
 use Rattle.cuts.proofs.SumLaws.{sum-congr}
@@ -22,7 +24,7 @@ use Rattle.cuts.proofs.Least.{firstFrom-firstOf, firstFrom-append}
 use Rattle.cuts.proofs.Handles.{candidate-of, candidate-in}
 use Rattle.cuts.proofs.Demands.{some-candidate}
 use Rattle.sheet.specs.Bytes.{Bytes, mapBit}
-use Rattle.sheet.specs.Sheet.{base, mapLength, treeLength, treeIn, Accepted}
+use Rattle.sheet.specs.Sheet.{mapLength, treeLength, treeIn}
 use Rattle.reader.proofs.TreeLaws.{mapBit-take, members-at}
 use Rattle.choice.specs.Choice.{Says, Prior, Visited, treeCandidates, unfound}
 use Rattle.choice.specs.declared.Found.{Found}
@@ -56,13 +58,13 @@ module _ (s : Bytes) (at links : ℕ) where
 -- ---- the candidates of the trees still to come
 
 -- no candidate is as heavy as where a search starts
-lighter-unfound : (net : Network) → Accepted base net → (c : Candidate) → List·Memᴰ c (candidates net) → lighter c unfound ≡ true
+lighter-unfound : (net : Network) → Light net → (c : Candidate) → List·Memᴰ c (candidates net) → lighter c unfound ≡ true
 unfolding lighter candidate
-lighter-unfound net a c m =
+lighter-unfound net l c m =
     let t : Tree = treeAt net (c .tree) in
     let e : c .weight ≡ cutWeight net (sideOf net t (c .handle)) = ap (λ (x : Candidate). x .weight) (candidate-of net c m .is) ∙ weightOf-is net t (c .handle) in
-    let w : cutWeight net (sideOf net t (c .handle)) ≤ linkCount net * 1_000_000 = cutWeight-most net 1_000_000 (a .weights-most) (sideOf net t (c .handle)) in
-    let l : linkCount net ≤ 2048 = a .links-most in
+    let w = cutWeight-most net 4_294_967_295 (λ k b. let s = l .small k b in omega arith) (sideOf net t (c .handle)) in
+    let few = l .few in
     lt-ltb (c .weight) 18_446_744_073_709_551_615 (omega arith)
 
 -- those of one tree, then those of the trees behind it
@@ -78,14 +80,14 @@ pub record Visiting (net : Network) (best : Found) (i : ℕ) : Type 0 where
   pub visited : Visited net unfound i so-far
   pub leads : firstFrom lighter so-far (candidatesFrom net i (drop i (net .trees))) ≡ answer net .best
 
-module _ (net : Network) (a : Accepted base net) {best : Found} where
+module _ (net : Network) (sound : Sound net) (light : Light net) {best : Found} where
   pub trees-start : Says best unfound → Visiting net best 0
   unfolding answer judged candidates
   trees-start h = record {
     so-far = unfound;
     says = h;
     visited = inl refl;
-    leads = firstFrom-firstOf lighter noCandidate unfound (candidates net) (some-candidate net (a .sound) .1) (lighter-unfound net a);
+    leads = firstFrom-firstOf lighter noCandidate unfound (candidates net) (some-candidate net sound .1) (lighter-unfound net light);
   }
 
   -- a tree searched
@@ -97,7 +99,7 @@ module _ (net : Network) (a : Accepted base net) {best : Found} where
       let t : Tree = treeAt net i in
       let xs : List Candidate = treeCandidates net i t in
       let ys : List Candidate = candidatesFrom net (i + 1) (drop (i + 1) (net .trees)) in
-      let p : Prior lighter net i t c = prior-visited lighter net unfound i b c (w .visited) (λ g f. lighter-unfound net a (candidate net i t g) (candidate-in net i g b f)) in
+      let p : Prior lighter net i t c = prior-visited lighter net unfound i b c (w .visited) (λ g f. lighter-unfound net light (candidate net i t g) (candidate-in net i g b f)) in
       record {
         so-far = firstFrom lighter c xs;
         says = h c p (w .says);

@@ -6,8 +6,9 @@ use mathlib.Core.List.{List}
 use native.Mathlib.Omega.{arith}
 use Rattle.cuts.specs.Network.{Network, Tree}
 use Rattle.cuts.specs.Candidate.{Candidate, lighter}
+use Rattle.cuts.specs.Limits.{Light}
 use Rattle.places.specs.Kept.{Kept}
-use Rattle.rows.specs.Rows.{Light, Row}
+use Rattle.rows.specs.Rows.{Row}
 use Rattle.rows.proofs.PartLaws.{singlesIn-at}
 use Rattle.choice.specs.Rows.{Reached}
 use Rattle.choice.proofs.PrecedesLaws.{lighter-order}

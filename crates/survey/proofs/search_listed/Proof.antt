@@ -57,7 +57,7 @@ add-length-2 c = let b = few-links (c .before .before .before .before .before) i
 loop-holds : tie.Need-loop-holds Inv-loop μ-loop
 loop-holds c =
     let b = c .before .before .before .before .before in
-    (omega arith, trees-start (net b) (b .pre .0 .1) (record { tree = refl; handle = refl; weight = refl }))
+    (omega arith, trees-start (net b) (b .pre .0 .1 .sound) (b .pre .1 .4 .light) (record { tree = refl; handle = refl; weight = refl }))
 
 mul-search-record : tie.Need-mul-search-record Inv-loop μ-loop
 mul-search-record c = let b = inside c in omega arith
@@ -114,7 +114,7 @@ loop-again c =
     let l = test c .before .loop in
     let m = test c .loop-test .taken in (
       omega (arith, m),
-      trees-more (net b) (b .pre .0 .1) (l .i) (omega (arith, m, networkAt-trees (a .s .now) (a .ends .now) (a .weights .now) (countsOf (a .c)) (a .at))) (l .inv .1) (searched c),
+      trees-more (net b) (b .pre .0 .1 .sound) (b .pre .1 .4 .light) (l .i) (omega (arith, m, networkAt-trees (a .s .now) (a .ends .now) (a .weights .now) (countsOf (a .c)) (a .at))) (l .inv .1) (searched c),
     )
 
 returns : tie.Need-returns Inv-loop μ-loop
@@ -123,7 +123,7 @@ returns c =
     let a = b .args in
     let l = c .before .loop in
     let all : l .i ≡ a .c .trees = let m = l .inv .0 in omega arith in
-    trees-done (net b) (b .pre .0 .1) (l .i) (all ∙ sym (networkAt-trees (a .s .now) (a .ends .now) (a .weights .now) (countsOf (a .c)) (a .at))) (l .inv .1)
+    trees-done (net b) (b .pre .0 .1 .sound) (b .pre .1 .4 .light) (l .i) (all ∙ sym (networkAt-trees (a .s .now) (a .ends .now) (a .weights .now) (countsOf (a .c)) (a .at))) (l .inv .1)
 
 pub search-listed-spec : {M : Type 1} → statement M
 search-listed-spec =
