@@ -19,7 +19,7 @@ use Rattle.cuts.specs.Network.{Network, flag}
 use Rattle.cuts.specs.Answer.{Answer, answer}
 use Rattle.sheet.specs.Bytes.{Bytes}
 use Rattle.sheet.specs.Reading.{accepted, refused, numberOf}
-use Rattle.sheet.specs.Sheet.{base, decode}
+use Rattle.sheet.specs.Sheet.{base, decode, sheetMost}
 use Rattle.sheet.specs.Areas.{sideBytes, reportBytes, sideAfter, reportAfter, answerRead, firstLink, secondLink}
 
 -- ---- sheets of small numbers: a header, link records with all fields, and a tree record with a map of one byte
@@ -224,3 +224,9 @@ numbered bs = returns (numberOf (decode base bs)) bs
 numbers-returned : map (λ r. numbered (r .sheet)) numbers ≡ numbers
 unfolding numbers numbered
 numbers-returned = refl
+
+-- ---- the longest sheet: document 01, "The longest sheet has 26,757 bytes"
+
+longest : sheetMost base 2048 32 ≡ 26757
+unfolding sheetMost
+longest = refl

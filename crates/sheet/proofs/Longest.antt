@@ -1,24 +1,24 @@
--- An accepted sheet has at most 26,757 bytes (document 01, "The link sheet"), and bytes behind the first 26,758 never alter the outcome:
--- the header has 5 bytes, each of at most 2,048 link records up to 9 and each of at most 32 tree records up to 4 + 256; the checks of a
--- record look at no byte behind these, and the last check asks only whether a byte stands behind the last tree. Assumes nothing.
+-- How long an accepted sheet is, in any format: the header has 5 bytes, a link record no more than all fields take, a tree record its
+-- share and its map. Bytes behind a longest sheet never alter the outcome: the checks of a record look at no byte behind it, and the
+-- last check asks only whether a byte stands behind the last tree. Assumes nothing.
 use Prim.Native.Nat.{ℕ, zero, suc, _+_, _-_, _*_, _/_, _%_, _≤_, _<_}
-use mathlib.Core.Path.{_≡_, refl, sym, ap, ap₂, _∙_}
+use mathlib.Core.Path.{_≡_, refl, sym, ap, ap₂, _∙_, subst}
 use mathlib.Core.Bool.{Bool, true, false, _&&_, not, cond}
 use mathlib.Core.List.{List, [], _∷_, _++_}
-use native.Mathlib.Nat.{not-suc-le-zero}
+use native.Mathlib.Nat.{not-suc-le-zero, mul-le-mul, mul-le-mul-right}
 use native.Mathlib.Omega.{arith}
-use native.Mathlib.Decide.{decLe}
-use lib.ListN.{length, getD, take, drop, length-append, length-drop, take-append-drop, List·getD-append}
+use native.Mathlib.Decide.{decLe, decLt}
+use lib.ListN.{length, getD, take, drop, length-append, length-drop, take-append-drop, List·getD-append, List·getD-eq-default}
 use lib.Seq.{drop-append-le, length-take-le, take-all}
 use lib.Dec.{eqb, leb, ltb}
 use borrow.Author.Tests.{lt-ltb, le-ltb, ne-eqb}
 use Rattle.cuts.specs.Sums.{sumTo, only}
 use Rattle.cuts.specs.Network.{Link, Tree, Network, noLink, linkCount}
 use Rattle.cuts.specs.Tree.{spans}
-use Rattle.cuts.proofs.SumLaws.{anyTo-congr, sum-congr, sum-mono, table-congr}
+use Rattle.cuts.proofs.SumLaws.{anyTo-congr, sum-congr, sum-mono, sum-less, table-congr}
 use Rattle.sheet.specs.Bytes.{Bytes, number, bit, mapBit}
 use Rattle.sheet.specs.Reading.{Check, check, firstFailing, Reading, accepted, refused, numberOf, unless, andThen, records}
-use Rattle.sheet.specs.Sheet.{Counts, base, countsIn, countChecks, headerRecord, mapByte, fieldStart, recordLength, field, linkIn, shapeChecks, valueChecks, linkRecord, nextLink, mapLength, treeLength, treeIn, mapChecks, treeChecks, treeRecord, network, decodeBody, decode}
+use Rattle.sheet.specs.Sheet.{Format, Counts, countsIn, countChecks, headerRecord, mapByte, fieldStart, recordLength, field, linkIn, shapeChecks, valueChecks, linkRecord, nextLink, mapLength, treeLength, treeIn, mapChecks, treeChecks, treeRecord, network, decodeBody, decode, recordMost, sheetMost}
 use Rattle.sheet.proofs.ReadingLaws.{unless-accepted, andThen-accepted, records-all}
 use Rattle.sheet.proofs.Acceptance.{GoodCounts, good-counts, decode-zero}
 
@@ -133,54 +133,64 @@ headerRecord-local =
 
 -- ---- links
 
-fieldStart-most : (m i : ℕ) → fieldStart base m i ≤ sumTo i (λ j. getD (base .widths) j 0)
-unfolding fieldStart
-fieldStart-most m i = sum-mono i _ _ (λ j _. part (bit m j) (getD (base .widths) j 0))
-  where
-    part : (b : Bool) (x : ℕ) → only b x ≤ x
-    part true x = omega arith
-    part false x = omega arith
-
-recordLength-most : (bs : Bytes) → recordLength base bs ≤ 9
+-- what no bit is set for counts nothing, and past the last width nothing is counted
+widths-most : (ws : List ℕ) (i : ℕ) → sumTo i (λ j. getD ws j 0) ≤ sumTo (length ws) (λ j. getD ws j 0)
 unfolding sumTo
-recordLength-most bs = omega (arith, fieldStart-most (mapByte bs) 3)
+widths-most ws zero = omega arith
+widths-most ws (suc i) = step (decLt i (length ws)) (widths-most ws i)
+  where
+    step : Dec (i < length ws) → sumTo i (λ j. getD ws j 0) ≤ sumTo (length ws) (λ j. getD ws j 0)
+        → sumTo i (λ j. getD ws j 0) + getD ws i 0 ≤ sumTo (length ws) (λ j. getD ws j 0)
+    step (yes b) h = sum-less (suc i) (length ws) (λ j. getD ws j 0) b
+    step (no b) h = rw (List·getD-eq-default ws 0 (let l : length ws ≤ i = omega arith in l)) (omega arith)
 
-recordLength-front : Front 9 (recordLength base)
-recordLength-front bs later h = rw (List·getD-append bs later 0 0 (omega arith))
+module _ (f : Format) where
+  fieldStart-most : (m i : ℕ) → fieldStart f m i ≤ sumTo i (λ j. getD (f .widths) j 0)
+  unfolding fieldStart
+  fieldStart-most m i = sum-mono i _ _ (λ j _. part (bit m j) (getD (f .widths) j 0))
+    where
+      part : (b : Bool) (x : ℕ) → only b x ≤ x
+      part true x = omega arith
+      part false x = omega arith
 
-field-front : (i before : ℕ) → sumTo (suc i) (λ j. getD (base .widths) j 0) ≤ 8 → Front 9 (field base i before)
-unfolding field sumTo
-field-front i before l [] later h = absurd (not-suc-le-zero h)
-field-front i before l (x ∷ bs) later h =
-    let w : ℕ = getD (base .widths) i 0 in
-    let m = fieldStart-most x i in
-    ap (λ (v : ℕ). cond (bit x i) v before) (drop-front (1 + fieldStart base x i) w (number w) (number-front w) (x ∷ bs) later (omega arith))
+  recordLength-most : (bs : Bytes) → recordLength f bs ≤ recordMost f
+  unfolding recordMost
+  recordLength-most bs = omega (arith, fieldStart-most (mapByte bs) (length (f .widths)))
 
-linkIn-front : (before : Link) → Front 9 (linkIn base before)
-unfolding linkIn sumTo
-linkIn-front before bs later h =
-    rw (
-      field-front 0 (before .first) (omega arith) bs later h,
-      field-front 1 (before .second) (omega arith) bs later h,
-      field-front 2 (before .weight) (omega arith) bs later h,
-    )
+  recordLength-front : Front (recordMost f) (recordLength f)
+  unfolding recordMost
+  recordLength-front bs later h = rw (List·getD-append bs later 0 0 (omega arith))
 
-shapeChecks-front : (start : Bool) → Front 9 (shapeChecks base start)
-unfolding shapeChecks
-shapeChecks-front start bs later h =
-    rw (
-      List·getD-append bs later 0 0 (omega arith),
-      length-front 9 (recordLength base bs) (recordLength-most bs) bs later h,
-      ne-eqb (length (bs ++ later)) 0 (λ e. let l = length-append bs later in omega arith),
-      ne-eqb (length bs) 0 (λ e. omega arith),
-    )
+  field-front : (i before : ℕ) → Front (recordMost f) (field f i before)
+  unfolding field sumTo recordMost
+  field-front i before [] later h = absurd (omega arith)
+  field-front i before (x ∷ bs) later h =
+      let w : ℕ = getD (f .widths) i 0 in
+      let m = fieldStart-most x i in
+      let n = widths-most (f .widths) (suc i) in
+      ap (λ (v : ℕ). cond (bit x i) v before) (drop-front (1 + fieldStart f x i) w (number w) (number-front w) (x ∷ bs) later (omega arith))
 
-linkRecord-local : (nodes : ℕ) (start : Bool) (before : Link) → Local 9 0 (linkRecord base nodes start before)
-unfolding linkRecord
-linkRecord-local nodes start before =
-    unless-local 9 (λ bs. shapeChecks base start bs ++ valueChecks base nodes (linkIn base before bs)) (linkIn base before) (recordLength base)
-    (λ bs later h. ap₂ _++_ (shapeChecks-front start bs later h) (ap (valueChecks base nodes) (linkIn-front before bs later h)))
-    (linkIn-front before) recordLength-front recordLength-most
+  linkIn-front : (before : Link) → Front (recordMost f) (linkIn f before)
+  unfolding linkIn
+  linkIn-front before bs later h =
+      rw (field-front 0 (before .first) bs later h, field-front 1 (before .second) bs later h, field-front 2 (before .weight) bs later h)
+
+  shapeChecks-front : (start : Bool) → Front (recordMost f) (shapeChecks f start)
+  unfolding shapeChecks recordMost
+  shapeChecks-front start bs later h =
+      rw (
+        List·getD-append bs later 0 0 (omega arith),
+        length-front (recordMost f) (recordLength f bs) (recordLength-most bs) bs later h,
+        ne-eqb (length (bs ++ later)) 0 (λ e. let l = length-append bs later in omega arith),
+        ne-eqb (length bs) 0 (λ e. omega arith),
+      )
+
+  linkRecord-local : (nodes : ℕ) (start : Bool) (before : Link) → Local (recordMost f) 0 (linkRecord f nodes start before)
+  unfolding linkRecord
+  linkRecord-local nodes start before =
+      unless-local (recordMost f) (λ bs. shapeChecks f start bs ++ valueChecks f nodes (linkIn f before bs)) (linkIn f before) (recordLength f)
+      (λ bs later h. ap₂ _++_ (shapeChecks-front start bs later h) (ap (valueChecks f nodes) (linkIn-front before bs later h)))
+      (linkIn-front before) recordLength-front recordLength-most
 
 -- ---- trees
 
@@ -230,59 +240,65 @@ end-local net = record {
       rw (lt-ltb 0 (length (end ++ later)) (omega arith), lt-ltb 0 (length end) (omega arith));
 }
 
-abbrev readLinks : Counts → Bytes → Reading (List Link)
-readLinks c = records (nextLink base (c .nodes)) (c .links) []
+module _ (f : Format) (c : Counts) where
+  abbrev readLinks : Bytes → Reading (List Link)
+  readLinks = records (nextLink f (c .nodes)) (c .links) []
 
-abbrev readTrees : Counts → List Link → Bytes → Reading (List Tree)
-readTrees c links = records (λ _. treeRecord (network (c .nodes) links [])) (c .trees) []
+  abbrev readTrees : List Link → Bytes → Reading (List Tree)
+  readTrees links = records (λ _. treeRecord (network (c .nodes) links [])) (c .trees) []
 
-links-counted : (c : Counts) (bs : Bytes) (links : List Link) (rest : Bytes) → readLinks c bs ≡ accepted links rest → length links ≡ c .links
-links-counted c bs links rest e =
-    omega (arith, records-all noLink (λ _. Unit {0}) (nextLink base (c .nodes)) (λ got bs l rest e. tt) (c .links) [] bs (λ i b. tt) e .1)
+  links-counted : (bs : Bytes) (links : List Link) (rest : Bytes) → readLinks bs ≡ accepted links rest → length links ≡ c .links
+  links-counted bs links rest e =
+      omega (arith, records-all noLink (λ _. Unit {0}) (nextLink f (c .nodes)) (λ got bs l rest e. tt) (c .links) [] bs (λ i b. tt) e .1)
 
-module _ (c : Counts) (w : GoodCounts c) where
-  links-local : Local (2048 * 9) 0 (readLinks c)
-  links-local =
-      let m = w .links-most in
-      local-more (omega arith) (records-local (nextLink base (c .nodes)) (λ got. linkRecord-local (c .nodes) _ _) (c .links) [])
+  links-local : Local (c .links * recordMost f) 0 readLinks
+  links-local = records-local (nextLink f (c .nodes)) (λ got. linkRecord-local f (c .nodes) _ _) (c .links) []
 
-  trees-local : (links : List Link) → length links ≡ c .links → Local (32 * 260) 0 (readTrees c links)
+  trees-local : (links : List Link) → length links ≡ c .links → Local (c .trees * treeLength (c .links)) 0 (readTrees links)
   trees-local links e =
       let net : Network = network (c .nodes) links [] in
-      let m = w .links-most in
-      let t = w .trees-most in
-      local-more (omega arith) (records-local {a = 260} (λ _. treeRecord net) (λ got. local-more (omega arith) (treeRecord-local net)) (c .trees) [])
+      subst (λ (n : ℕ). Local (c .trees * treeLength n) 0 (readTrees links)) e (records-local (λ _. treeRecord net) (λ got. treeRecord-local net) (c .trees) [])
 
-  decodeBody-local : Local (2048 * 9 + 32 * 260) 1 (decodeBody base c)
+  decodeBody-local : Local (c .links * recordMost f + c .trees * treeLength (c .links)) 1 (decodeBody f c)
   unfolding decodeBody
   decodeBody-local =
-      andThen-local (readLinks c) _ links-local
-      (λ bs links rest e. andThen-local {b = 0} (readTrees c links) _ (trees-local links (links-counted c bs links rest e))
-      (λ _ trees _ _. end-local (network (c .nodes) links trees)))
+      local-more (omega arith)
+      (andThen-local readLinks _ links-local
+      (λ bs links rest e. andThen-local {b = 0} (readTrees links) _ (trees-local links (links-counted bs links rest e))
+      (λ _ trees _ _. end-local (network (c .nodes) links trees))))
 
-decode-local : Local 26757 1 (decode base)
-unfolding decode
-decode-local =
-    andThen-local headerRecord (decodeBody base) headerRecord-local (λ sheet c rest e. decodeBody-local c (good-counts sheet c rest e))
+module _ (f : Format) where
+  most-mono : (c : Counts) → GoodCounts c → c .links * recordMost f + c .trees * treeLength (c .links) ≤ 2048 * recordMost f + 32 * treeLength 2048
+  most-mono c w =
+      let a = mul-le-mul-right (recordMost f) (w .links-most) in
+      let l : treeLength (c .links) ≤ treeLength 2048 = let m = w .links-most in omega arith in
+      let b = mul-le-mul (w .trees-most) l in
+      omega arith
 
--- document 01: "The longest sheet has 26,757 bytes"
-pub decode-longest : (sheet : Bytes) (net : Network) (rest : Bytes) → decode base sheet ≡ accepted net rest → length sheet ≤ 26757
-decode-longest sheet net rest e = let z = decode-zero base sheet (ap numberOf e) in decode-local .takes sheet (z .0) [] (z .1)
+  decode-local : Local (sheetMost f 2048 32) 1 (decode f)
+  unfolding decode sheetMost
+  decode-local =
+      local-more (omega arith) (andThen-local headerRecord (decodeBody f) headerRecord-local
+      (λ sheet c rest e. local-more (most-mono c (good-counts sheet c rest e)) (decodeBody-local f c)))
 
--- with more bytes both are refused, by the same number
-decode-front : (front later : Bytes) → 26757 < length front → decode base (front ++ later) ≡ decode base front
-decode-front front later h = decode-local .looks front later h ∙ step (decode base front) refl
-  where
-    step : (r : Reading Network) → decode base front ≡ r → behind later r ≡ r
-    step (accepted net rest) e = absurd (omega (arith, decode-longest front net rest e))
-    step (refused n) e = refl
+  -- no accepted sheet is longer
+  pub decode-longest : (sheet : Bytes) (net : Network) (rest : Bytes) → decode f sheet ≡ accepted net rest → length sheet ≤ sheetMost f 2048 32
+  decode-longest sheet net rest e = let z = decode-zero f sheet (ap numberOf e) in omega (arith, decode-local .takes sheet (z .0) [] (z .1))
 
--- so the first n bytes decide, where n is more: document 01, "later bytes cannot alter the outcome"
-pub decode-take : (n : ℕ) (sheet : Bytes) → 26757 < n → decode base (take n sheet) ≡ decode base sheet
-decode-take n sheet h = step (decLe (length sheet) n)
-  where
-    step : Dec (length sheet ≤ n) → decode base (take n sheet) ≡ decode base sheet
-    step (yes l) = ap (decode base) (take-all n sheet l)
-    step (no l) =
-        sym (decode-front (take n sheet) (drop n sheet) (let e = length-take-le n sheet (omega arith) in omega arith))
-        ∙ ap (decode base) (take-append-drop n sheet)
+  -- with more bytes both are refused, by the same number
+  decode-front : (front later : Bytes) → sheetMost f 2048 32 < length front → decode f (front ++ later) ≡ decode f front
+  decode-front front later h = decode-local .looks front later (omega arith) ∙ step (decode f front) refl
+    where
+      step : (r : Reading Network) → decode f front ≡ r → behind later r ≡ r
+      step (accepted net rest) e = absurd (omega (arith, decode-longest front net rest e))
+      step (refused n) e = refl
+
+  -- so the first n bytes decide, where n is more: document 01, "later bytes cannot alter the outcome"
+  pub decode-take : (n : ℕ) (sheet : Bytes) → sheetMost f 2048 32 < n → decode f (take n sheet) ≡ decode f sheet
+  decode-take n sheet h = step (decLe (length sheet) n)
+    where
+      step : Dec (length sheet ≤ n) → decode f (take n sheet) ≡ decode f sheet
+      step (yes l) = ap (decode f) (take-all n sheet l)
+      step (no l) =
+          sym (decode-front (take n sheet) (drop n sheet) (let e = length-take-le n sheet (omega arith) in omega arith))
+          ∙ ap (decode f) (take-append-drop n sheet)

@@ -25,6 +25,8 @@
 --   network n ls ts              the network of n nodes with the links ls and the trees ts
 --   decodeBody f c bs            the network of the records bs behind a header with the counts c, or the refusal; 16 is the last
 --   decode f sheet               the network of the sheet, or the refusal
+--   recordMost f                 the length of a longest link record: all its fields are there
+--   sheetMost f links trees      the length of a longest sheet with so many links and trees
 --   Accepted f net               what holds of every network that a sheet gives
 use Prim.Native.Nat.{ℕ, _+_, _-_, _*_, _/_, _%_, _^_, _≤_, _<_}
 use mathlib.Core.Path.{_≡_}
@@ -165,6 +167,18 @@ decodeBody f c bs =
 unfoldable pub decode : Format → Bytes → Reading Network
 unfolding headerRecord decodeBody
 decode f sheet = andThen (headerRecord sheet) (decodeBody f)
+
+-- ---- how long a sheet can be
+
+unfoldable pub recordMost : Format → ℕ
+unfolding sumTo
+recordMost f = 1 + sumTo (length (f .widths)) (λ j. getD (f .widths) j 0)
+
+unfoldable pub sheetMost : Format → ℕ → ℕ → ℕ
+unfolding recordMost
+sheetMost f links trees = 5 + links * recordMost f + trees * treeLength links
+
+-- ---- what an accepted sheet gives
 
 pub record Accepted (f : Format) (net : Network) : Type 0 where
   pub sound : Sound net
