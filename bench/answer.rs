@@ -73,6 +73,6 @@ fn write_report(area: &mut [u8], found: &Found, floor: u64) {
     area[2..4].copy_from_slice(&count.to_le_bytes());
     area[4..6].copy_from_slice(&found.first.to_le_bytes());
     area[6..8].copy_from_slice(&second.to_le_bytes());
-    area[8..12].copy_from_slice(&(found.weight as u32).to_le_bytes());
-    area[12..16].copy_from_slice(&(floor as u32).to_le_bytes());
+    area[8..16].copy_from_slice(&found.weight.to_le_bytes());
+    area[16..24].copy_from_slice(&floor.to_le_bytes());
 }

@@ -93,9 +93,6 @@ fn read_link(rest: &mut &[u8], nodes: usize, before: Option<&Link>) -> Result<Li
     if first >= nodes || second >= nodes || first == second {
         return Err(10);
     }
-    if weight > 1_000_000 {
-        return Err(11);
-    }
     Ok(Link { first: first as u8, second: second as u8, weight })
 }
 

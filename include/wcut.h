@@ -3,7 +3,7 @@
  * listed spanning tree, and whether it is provably the lightest cut of the whole network. docs/ENTRY.md has the layouts and the cost.
  *
  * Link with libmonitor.a, which is for x86-64 and its System V calling convention; it needs memset and memcpy. The entry keeps no state,
- * allocates nothing, and takes 52,608 bytes of stack.
+ * allocates nothing, and takes 52,592 bytes of stack.
  */
 #ifndef WCUT_H
 #define WCUT_H
@@ -17,7 +17,7 @@ extern "C" {
 
 /* Sizes. */
 #define WCUT_SIDE_BYTES 32       /* the side area: node k is bit k % 8 of byte k / 8 */
-#define WCUT_REPORT_BYTES 16     /* the report area, laid out as below */
+#define WCUT_REPORT_BYTES 24     /* the report area, laid out as below */
 #define WCUT_LONGEST_SHEET 26757 /* a sheet of more bytes is refused */
 #define WCUT_MOST_NODES 256
 #define WCUT_MOST_LINKS 2048
@@ -29,8 +29,8 @@ extern "C" {
 #define WCUT_AT_COUNT 2   /* 2 bytes: nodes in the side */
 #define WCUT_AT_FIRST 4   /* 2 bytes: first tree link */
 #define WCUT_AT_SECOND 6  /* 2 bytes: second tree link, or WCUT_NO_SECOND */
-#define WCUT_AT_WEIGHT 8  /* 4 bytes */
-#define WCUT_AT_FLOOR 12  /* 4 bytes: no cut of the network weighs less */
+#define WCUT_AT_WEIGHT 8  /* 8 bytes, at most 2,048 times 4,294,967,295 */
+#define WCUT_AT_FLOOR 16  /* 8 bytes: no cut of the network weighs less */
 
 #define WCUT_VERDICT_TREES_ONLY 1 /* lightest of the cuts that the trees show */
 #define WCUT_VERDICT_WHOLE 2      /* provably lightest of the whole network */
@@ -39,7 +39,7 @@ extern "C" {
 /* What wcut_report returns: 0, or the first refusal that applies, in this order; within links and trees, record by record. */
 #define WCUT_ACCEPTED 0
 #define WCUT_SHORT_SIDE 1    /* the side area has fewer than 32 bytes */
-#define WCUT_SHORT_REPORT 2  /* the report area has fewer than 16 bytes */
+#define WCUT_SHORT_REPORT 2  /* the report area has fewer than 24 bytes; units already sold take 16 */
 #define WCUT_SHORT_HEADER 3  /* the sheet has fewer than 5 bytes */
 #define WCUT_NODE_COUNT 4    /* the node count is below 2 or above 256 */
 #define WCUT_LINK_COUNT 5    /* the link count is below the node count less 1, or above 2,048 */
@@ -48,7 +48,7 @@ extern "C" {
 #define WCUT_MAP_BYTE 8      /* a map byte exceeds 7, or link 0's map byte is not 7 */
 #define WCUT_CUT_OFF_FIELD 9 /* the sheet ends before the last byte of a field whose bit stands */
 #define WCUT_LINK_ENDS 10    /* an end is not below the node count, or both ends are equal */
-#define WCUT_LINK_WEIGHT 11  /* a weight exceeds 1,000,000 */
+#define WCUT_LINK_WEIGHT 11  /* never returned: every 4-byte weight is allowed; units already sold refuse one above 1,000,000 */
 #define WCUT_CUT_OFF_TREE 12 /* the sheet ends inside or before a tree record */
 #define WCUT_STRAY_BIT 13    /* a link map has a bit set from the link count up */
 #define WCUT_MEMBER_COUNT 14 /* the ones in a link map are not the node count less 1 */
@@ -56,8 +56,8 @@ extern "C" {
 #define WCUT_BYTES_LEFT 16   /* bytes follow the last tree */
 
 /*
- * Reads the sheet, writes the first 32 bytes of the side area and the first 16 of the report area, and returns WCUT_ACCEPTED; or
- * returns the number of the first refusal and leaves both areas as they were. Bytes of the areas past 32 and 16 are never touched.
+ * Reads the sheet, writes the first 32 bytes of the side area and the first 24 of the report area, and returns WCUT_ACCEPTED; or
+ * returns the number of the first refusal and leaves both areas as they were. Bytes of the areas past 32 and 24 are never touched.
  *
  * The caller's duties:
  *   - each pointer is not null and points to as many bytes as the length behind it says, those of the areas writable;

@@ -1,5 +1,5 @@
-//! Document 01's networks, starred or not, and its limits. The lines of each stand in document 01 or were reckoned by hand from
-//! its words.
+//! Document 01's networks, starred or not, and the limits of documents 01 and 02. The lines of each stand in the documents or were
+//! reckoned by hand from their words.
 
 use crate::network::{Link, Network, Tree};
 use crate::sheet;
@@ -119,12 +119,12 @@ fn parallel_sheet(links: usize, weight: u64, trees: usize) -> Vec<u8> {
     sheet::write(&network(2, &vec![(0, 1, weight); links], &vec![tree; trees]))
 }
 
-/// So many parallel links of two nodes with the greatest weight, and 32 trees of one link each with shares of the same size.
-fn greatest_floor_sheet(links: usize) -> Vec<u8> {
+/// So many parallel links of two nodes with that weight, and 32 trees of one link each with shares of the same size.
+fn greatest_floor_sheet(links: usize, weight: u64) -> Vec<u8> {
     let members: Vec<usize> = (0..sheet::MOST_TREES).collect();
-    let tree = |member| (sheet::MOST_WEIGHT, std::slice::from_ref(member));
+    let tree = |member| (weight, std::slice::from_ref(member));
     let trees: Vec<(u64, &[usize])> = members.iter().map(tree).collect();
-    sheet::write(&network(2, &vec![(0, 1, sheet::MOST_WEIGHT); links], &trees))
+    sheet::write(&network(2, &vec![(0, 1, weight); links], &trees))
 }
 
 fn node_limits() -> Vec<Documented> {
@@ -143,28 +143,38 @@ fn link_limits() -> Vec<Documented> {
     let most_links = "answer 1 2048 3 0 0 - 1\nside 1\n";
     let most_weight = "answer 1 1000000 3 0 0 - 1\nside 1\n";
     let both = "answer 1 2048000000 3 0 0 - 1\nside 1\n";
-    let too_heavy = parallel_sheet(1, 1_000_001, 1);
+    let past_a_million = "answer 1 1000001 3 0 0 - 1\nside 1\n";
+    let of_four_bytes = "answer 1 4294967295 3 0 0 - 1\nside 1\n";
+    let past_four_bytes = "answer 1 8589934590 3 0 0 - 1\nside 1\n";
+    let greatest = "answer 1 8796093020160 3 0 0 - 1\nside 1\n";
     vec![
         documented("2,048 links", parallel_sheet(2048, 1, 1), most_links),
         documented("2,049 links", parallel_sheet(2049, 1, 1), "refused 5\n"),
         documented("weight 1,000,000", parallel_sheet(1, 1_000_000, 1), most_weight),
-        documented("weight 1,000,001", too_heavy, "refused 11\n"),
-        documented("2,048 of them", parallel_sheet(2048, 1_000_000, 1), both),
+        documented("2,048 links of weight 1,000,000", parallel_sheet(2048, 1_000_000, 1), both),
+        documented("weight 1,000,001", parallel_sheet(1, 1_000_001, 1), past_a_million),
+        documented("weight 4,294,967,295", parallel_sheet(1, 4_294_967_295, 1), of_four_bytes),
+        documented("two links of weight 4,294,967,295", parallel_sheet(2, 4_294_967_295, 1), past_four_bytes),
+        documented("2,048 links of weight 4,294,967,295", parallel_sheet(2048, 4_294_967_295, 1), greatest),
     ]
 }
 
 fn tree_limits() -> Vec<Documented> {
     let one_tree = "answer 1 32 3 0 0 - 1\nside 1\n";
     let most_trees = "answer 2 32 32 0 0 - 1\nside 1\n";
-    let floor = "answer 1 2048000000 96000000 0 0 - 1\nside 1\n";
-    let whole = "answer 2 96000000 96000000 0 0 - 1\nside 1\n";
+    let million = "answer 1 2048000000 96000000 0 0 - 1\nside 1\n";
+    let million_whole = "answer 2 96000000 96000000 0 0 - 1\nside 1\n";
+    let floor = "answer 1 8796093020160 412316860320 0 0 - 1\nside 1\n";
+    let whole = "answer 2 412316860320 412316860320 0 0 - 1\nside 1\n";
     vec![
         documented("no tree", parallel_sheet(1, 32, 0), "refused 6\n"),
         documented("1 tree", parallel_sheet(1, 32, 1), one_tree),
         documented("32 trees", parallel_sheet(1, 32, 32), most_trees),
         documented("33 trees", parallel_sheet(1, 33, 33), "refused 6\n"),
-        documented("the greatest floor", greatest_floor_sheet(2048), floor),
-        documented("the same, whole", greatest_floor_sheet(96), whole),
+        documented("a floor of weights of a million", greatest_floor_sheet(2048, 1_000_000), million),
+        documented("a floor of weights of a million, whole", greatest_floor_sheet(96, 1_000_000), million_whole),
+        documented("the greatest floor", greatest_floor_sheet(2048, 4_294_967_295), floor),
+        documented("the greatest floor, whole", greatest_floor_sheet(96, 4_294_967_295), whole),
     ]
 }
 
@@ -174,14 +184,14 @@ mod tests {
     use crate::{every_side, report};
 
     #[test]
-    fn the_reference_answers_as_document_01() {
+    fn the_reference_answers_as_documented() {
         for case in all() {
             assert_eq!(report::lines(&report::outcome(&case.sheet)), case.lines, "{}", case.name);
         }
     }
 
     #[test]
-    fn every_side_answers_as_document_01() {
+    fn every_side_answers_as_documented() {
         for case in all() {
             match sheet::read(&case.sheet) {
                 Ok(network) if network.nodes <= every_side::MOST_NODES => {

@@ -6,15 +6,15 @@ mod tests;
 use crate::cuts::{self, Answer, Candidate};
 use crate::network::{Link, Network};
 use crate::report;
-use crate::sheet::{Place, Refusal, LEAST_NODES, MOST_LINKS, MOST_NODES, MOST_TREES, MOST_WEIGHT};
+use crate::sheet::{Place, Refusal, LEAST_NODES, MOST_LINKS, MOST_NODES, MOST_TREES};
 
 /// How many nodes of a side a sentence names.
 const MOST_NAMED_NODES: usize = 12;
 
-/// Document 01's words for the refusal numbers, from 1 on.
+/// Document 01's words for the refusal numbers, from 1 on, with those of request F-2 for 2 and 11.
 const MEANINGS: [&str; 16] = [
     "the side area has fewer than 32 bytes",
-    "the report area has fewer than 16 bytes",
+    "the report area has fewer than 24 bytes",
     "the sheet has fewer than 5 bytes",
     "the node count is below 2 or above 256",
     "the link count is below the node count less 1, or above 2,048",
@@ -23,7 +23,7 @@ const MEANINGS: [&str; 16] = [
     "a map byte exceeds 7, or link 0's map byte is not 7",
     "the sheet ends before the last byte of a field whose bit stands",
     "an end is not below the node count, or both ends are equal",
-    "a weight exceeds 1,000,000",
+    "a weight exceeds 1,000,000, which only units already sold refuse",
     "the sheet ends inside or before a tree record",
     "a link map has a bit set from the link count up",
     "the ones in a link map are not the node count less 1",
@@ -48,10 +48,6 @@ pub fn refusal_of(network: &Network, refusal: &Refusal) -> String {
         (5, _) => format!("the link count is {links}, and {nodes} nodes need at least {}", nodes - 1),
         (6, _) => format!("the tree count is {trees}, and the monitor takes 1 to {MOST_TREES}"),
         (10, Place::Link(place)) => wrong_ends(nodes, place, &network.links[place]),
-        (11, Place::Link(place)) => {
-            let weight = network.links[place].weight;
-            format!("link {place} weighs {weight}, and the monitor takes at most {MOST_WEIGHT}")
-        }
         (14, Place::Tree(place)) => {
             let members = network.trees[place].members.len();
             format!("tree {place} names {members} of the links, and a tree of {nodes} nodes has {}", nodes - 1)

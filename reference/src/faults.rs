@@ -218,14 +218,13 @@ fn link_cuts(base: &Base, link: usize) -> Vec<Fault> {
     (start..end).map(cut).collect()
 }
 
-/// The faults of a link record by kind: the map byte, ends that are too large, equal ends, the weight.
-fn link_faults(base: &Base, link: usize) -> [Vec<Fault>; 4] {
+/// The faults of a link record by kind: the map byte, ends that are too large, equal ends.
+fn link_faults(base: &Base, link: usize) -> [Vec<Fault>; 3] {
     let nodes = base.network.nodes;
     [
         map_byte_faults(base, link),
         end_faults(base, link, |end, _| vec![nodes, nodes + 1, 256 + end, 65_535]),
         end_faults(base, link, |_, other| vec![other]),
-        weight_faults(base, link),
     ]
 }
 
@@ -264,15 +263,6 @@ fn weight_start(base: &Base, link: usize) -> Option<usize> {
     (map & sheet::WEIGHT_BIT != 0).then_some(base.link_starts[link] + 1 + before)
 }
 
-fn weight_faults(base: &Base, link: usize) -> Vec<Fault> {
-    let Some(at) = weight_start(base, link) else {
-        return Vec::new();
-    };
-    let too_heavy = [1_000_001_u32, 1 << 24, u32::MAX];
-    let set = |weight: u32| Edit::Set(at, weight.to_le_bytes().to_vec());
-    too_heavy.map(|weight| fault(Place::Link(link), 11, set(weight))).to_vec()
-}
-
 /// The sheet cut before and inside a tree record.
 fn tree_cuts(base: &Base, tree: usize) -> Vec<Fault> {
     let start = base.tree_starts[tree];
@@ -305,7 +295,8 @@ fn swap_faults(base: &Base, tree: usize) -> Vec<Fault> {
     faults
 }
 
-/// Sheets that differ from the base and have no fault: each weight at its limit and 0, each share at its limits.
+/// Sheets that differ from the base and have no fault: each weight at its limits and around that of units already sold, each share
+/// at its limits.
 pub fn harmless(base: &Base) -> Vec<Vec<u8>> {
     let mut sheets = Vec::new();
     let mut set = |at: usize, number: u32| {
@@ -313,8 +304,9 @@ pub fn harmless(base: &Base) -> Vec<Vec<u8>> {
         sheets.push(damaged(base, &[&edit]));
     };
     for at in (0..base.network.links.len()).filter_map(|link| weight_start(base, link)) {
-        set(at, sheet::MOST_WEIGHT as u32);
-        set(at, 0);
+        for weight in [0, 1_000_000, 1_000_001, 1 << 24, u32::MAX] {
+            set(at, weight);
+        }
     }
     for &at in &base.tree_starts {
         set(at, u32::MAX);
@@ -347,7 +339,7 @@ mod tests {
                 numbers.insert(fault.refusal.number);
             }
         }
-        assert_eq!(numbers, (3..=16).collect());
+        assert_eq!(numbers, (3..=16).filter(|&number| number != 11).collect());
     }
 
     #[test]
@@ -369,7 +361,7 @@ mod tests {
             };
             seen.insert((place, number, equal_ends));
         }
-        let kinds = [(8, false), (10, false), (10, true), (11, false)];
+        let kinds = [(8, false), (10, false), (10, true)];
         for (link, (number, equal_ends)) in (0..2041).flat_map(|link| kinds.map(|kind| (link, kind))) {
             assert!(seen.contains(&(Place::Link(link), number, equal_ends)), "{number} at link {link}");
         }
@@ -395,7 +387,7 @@ mod tests {
                 }
             }
         }
-        let links = [(8, 9), (8, 10), (8, 11), (9, 10), (10, 11)];
+        let links = [(8, 9), (8, 10), (9, 10)];
         let trees = [(12, 14), (12, 15), (13, 14), (13, 15), (14, 15)];
         for (one, other) in links.into_iter().chain(trees) {
             assert!(seen.contains(&(one, other, true)) || seen.contains(&(other, one, true)));

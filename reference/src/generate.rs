@@ -4,7 +4,7 @@ use crate::cuts;
 use crate::network::{joining, Link, Network, Tree};
 use crate::random::Random;
 use crate::shapes::SHAPES;
-use crate::sheet::{self, MOST_LINKS, MOST_TREES, MOST_WEIGHT};
+use crate::sheet::{self, BASE, MOST_LINKS, MOST_TREES, MOST_WEIGHT};
 
 #[derive(Clone, Copy, Debug)]
 pub struct Size {
@@ -39,7 +39,7 @@ pub enum Feature {
     SharesAtWeight,
     /// Shares whose sums need more than 32 bits, some with a small remainder of 32 bits.
     WideSums,
-    /// Weights of 1,000,000, and at most two less.
+    /// Weights around the greatest of units already sold, around 2^31, and up to the greatest, in a range each.
     HeavyLinks,
     /// A light side that the first trees do not show and a later one does. It takes at least [`LATER_TREE_SIZE`].
     LaterTree,
@@ -73,7 +73,7 @@ impl Feature {
             Feature::LoadAboveWeight => "load one above its link's weight",
             Feature::SharesAtWeight => "three shares at the weight",
             Feature::WideSums => "sums of more than 32 bits",
-            Feature::HeavyLinks => "weights at the limit",
+            Feature::HeavyLinks => "heavy links",
             Feature::LaterTree => "a later tree shows the lightest",
         }
     }
@@ -226,12 +226,31 @@ fn spanning_members(network: &Network, order: &[usize]) -> Vec<usize> {
     members
 }
 
+/// Ranges of weights: around the limit of units already sold, around half of 2^32, so that two of them pass it or not, and up to
+/// the greatest.
+const HEAVY_WEIGHTS: [(u64, u64); 6] = [
+    (BASE.most_weight - 1, BASE.most_weight + 1),
+    ((1 << 31) - 1, (1 << 31) + 1),
+    (MOST_WEIGHT - 2, MOST_WEIGHT),
+    (MOST_WEIGHT, MOST_WEIGHT),
+    (0, MOST_WEIGHT),
+    (1 << 30, MOST_WEIGHT),
+];
+
+/// The greatest weight with which a share of four bytes, three times, is as much as all links weigh.
+fn most_for_one_share(network: &Network) -> u64 {
+    (3 * MOST_WEIGHT / network.links.len() as u64).min(MOST_WEIGHT)
+}
+
 fn set_weights(random: &mut Random, network: &mut Network, feature: Feature) {
     let (least, most) = match feature {
         Feature::Any | Feature::WideSums => (0, random.pick(&[10, 1000, MOST_WEIGHT])),
         Feature::Ties | Feature::EqualTrees => random.pick(&[(1, 1), (1, 2), (0, 2), (5, 7)]),
-        Feature::SharesAtWeight => random.pick(&[(2, 4), (10, 20), (1000, 2000)]),
-        Feature::HeavyLinks => (MOST_WEIGHT - random.pick(&[0, 1, 2]), MOST_WEIGHT),
+        Feature::SharesAtWeight => {
+            let most = most_for_one_share(network);
+            random.pick(&[(2, 4), (10, 20), (1000, 2000), (most / 2, most)])
+        }
+        Feature::HeavyLinks => random.pick(&HEAVY_WEIGHTS),
         _ => (0, random.pick(&[2, 5, 100])),
     };
     for link in &mut network.links {
@@ -250,7 +269,7 @@ fn set_shares(random: &mut Random, network: &mut Network, feature: Feature) {
             Feature::Any => random.number() & ((1 << bits) - 1),
             Feature::LoadAtWeight | Feature::LoadAboveWeight => random.between(1, 1 + most) as u64,
             Feature::WideSums => u64::from(u32::MAX) - random.pick(&[0, 0, 1, u64::from(u32::MAX / 3 * 2)]),
-            Feature::HeavyLinks => random.pick(&[0, MOST_WEIGHT / 32, MOST_WEIGHT / 3, MOST_WEIGHT, MOST_WEIGHT + 1]),
+            Feature::HeavyLinks => random.pick(&[0, MOST_WEIGHT / 32, MOST_WEIGHT / 3, MOST_WEIGHT - 1, MOST_WEIGHT]),
             _ => random.between(0, most) as u64,
         };
     }
@@ -262,11 +281,12 @@ fn set_shares(random: &mut Random, network: &mut Network, feature: Feature) {
     }
 }
 
-/// Gives all trees the same share, the greatest that loads links of the greatest weight no more than they bear.
+/// Gives all trees the same share, the greatest that loads no link more than the lightest bears.
 fn share_evenly(network: &mut Network) {
     network.trees.iter_mut().for_each(|tree| tree.share = 1);
     let most_holders = cuts::loads(network).into_iter().max().unwrap_or(1);
-    let share = MOST_WEIGHT / most_holders;
+    let lightest = network.links.iter().map(|link| link.weight).min().unwrap_or(0);
+    let share = lightest / most_holders;
     network.trees.iter_mut().for_each(|tree| tree.share = share);
 }
 
@@ -304,6 +324,7 @@ fn overload_one(random: &mut Random, network: &mut Network) {
 /// attempts reach that.
 fn fit_shares(random: &mut Random, network: &mut Network) {
     const ATTEMPTS: usize = 6;
+    let most = most_for_one_share(network);
     for _ in 0..ATTEMPTS {
         let mut left = (cuts::answer(network).candidate.weight + 1) / 3;
         let last = network.trees.len() - 1;
@@ -315,7 +336,7 @@ fn fit_shares(random: &mut Random, network: &mut Network) {
             return;
         }
         for (link, load) in cuts::loads(network).into_iter().enumerate() {
-            network.links[link].weight = network.links[link].weight.max(load).min(MOST_WEIGHT);
+            network.links[link].weight = network.links[link].weight.max(load).min(most);
         }
     }
     let shares = (cuts::answer(network).candidate.weight + 1) / 3;
@@ -414,14 +435,18 @@ mod tests {
     fn three_shares_stand_at_the_weight_below_and_above() {
         let mut random = Random::new(3);
         let mut seen = BTreeSet::new();
-        for _ in 0..100 {
+        for _ in 0..1000 {
             let network = small(&mut random, Feature::SharesAtWeight);
             let weight = cuts::answer(&network).candidate.weight as i64;
             let difference = cuts::three_shares(&network) as i64 - weight;
             assert!(difference.abs() <= 1);
-            seen.insert((difference, cuts::overloaded(&network)));
+            seen.insert((difference, weight > i64::from(u32::MAX), cuts::overloaded(&network)));
         }
-        assert!([-1, 0, 1].iter().all(|&difference| seen.contains(&(difference, false))));
+        for (difference, wide) in
+            [-1, 0, 1].into_iter().flat_map(|difference| [(difference, false), (difference, true)])
+        {
+            assert!(seen.contains(&(difference, wide, false)), "{difference}, {wide}");
+        }
     }
 
     #[test]
@@ -433,6 +458,21 @@ mod tests {
             cuts::overloaded(network) && loads.iter().zip(&network.links).all(fits)
         };
         assert!((0..100).filter(|_| wraps(&small(&mut random, Feature::WideSums))).count() > 10);
+    }
+
+    #[test]
+    fn heavy_links_pass_four_bytes_or_not() {
+        let mut random = Random::new(6);
+        let mut seen = BTreeSet::new();
+        for _ in 0..300 {
+            let network = small(&mut random, Feature::HeavyLinks);
+            let answer = cuts::answer(&network);
+            let wide = |number: u64| number > u64::from(u32::MAX);
+            seen.insert((wide(answer.candidate.weight), wide(answer.floor), answer.verdict == cuts::WHOLE));
+        }
+        let narrow = [(false, false, false), (false, false, true)];
+        let wide = [(true, false, false), (true, true, false), (true, true, true)];
+        assert_eq!(seen, narrow.into_iter().chain(wide).collect());
     }
 
     #[test]

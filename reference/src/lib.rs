@@ -1,4 +1,4 @@
-//! The weakest-cut monitor a second time, written from document 01 alone and by another method: a reader and a writer of link
+//! The weakest-cut monitor a second time, written from documents 01 and 02 alone and by another method: a reader and a writer of link
 //! sheets, two ways to the answer, networks as text, and what the comparison with the monitor needs.
 
 pub mod cuts;

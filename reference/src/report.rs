@@ -4,7 +4,7 @@ use crate::cuts::{self, Answer};
 use crate::sheet::{self, Refusal};
 
 pub const SIDE_BYTES: usize = 32;
-pub const REPORT_BYTES: usize = 16;
+pub const REPORT_BYTES: usize = 24;
 const NO_SECOND: u16 = 65_535;
 
 pub type Outcome = Result<Answer, Refusal>;
@@ -23,7 +23,7 @@ pub fn side_area(answer: &Answer) -> [u8; SIDE_BYTES] {
     area
 }
 
-/// The first 16 bytes of the report area. The numbers of a sound network fit their fields.
+/// The first 24 bytes of the report area. The numbers of a sound network fit their fields.
 pub fn report_area(answer: &Answer) -> [u8; REPORT_BYTES] {
     let candidate = answer.candidate;
     let second = candidate.second.map_or(NO_SECOND, |second| second as u16);
@@ -33,8 +33,8 @@ pub fn report_area(answer: &Answer) -> [u8; REPORT_BYTES] {
     area[2..4].copy_from_slice(&(answer.side.len() as u16).to_le_bytes());
     area[4..6].copy_from_slice(&(candidate.first as u16).to_le_bytes());
     area[6..8].copy_from_slice(&second.to_le_bytes());
-    area[8..12].copy_from_slice(&(candidate.weight as u32).to_le_bytes());
-    area[12..16].copy_from_slice(&(answer.floor as u32).to_le_bytes());
+    area[8..16].copy_from_slice(&candidate.weight.to_le_bytes());
+    area[16..24].copy_from_slice(&answer.floor.to_le_bytes());
     area
 }
 
@@ -69,11 +69,16 @@ mod tests {
     use crate::cuts::Candidate;
 
     #[test]
-    fn areas_have_document_01s_layout() {
-        let candidate = Candidate { weight: 0x0102_0304, tree: 31, first: 0x0506, second: Some(0x0708) };
-        let mut answer = Answer { verdict: 1, floor: 0x0A0B_0C0D, candidate, side: vec![1, 8, 15, 255] };
-        let report = [1, 31, 4, 0, 6, 5, 8, 7, 4, 3, 2, 1, 0x0D, 0x0C, 0x0B, 0x0A];
-        assert_eq!(report_area(&answer), report);
+    fn areas_have_the_documented_layout() {
+        let weight = 0x1112_1314_0102_0304;
+        let candidate = Candidate { weight, tree: 31, first: 0x0506, second: Some(0x0708) };
+        let floor = 0x1A1B_1C1D_0A0B_0C0D;
+        let mut answer = Answer { verdict: 1, floor, candidate, side: vec![1, 8, 15, 255] };
+        let start = [1, 31, 4, 0, 6, 5, 8, 7];
+        let weight = [4, 3, 2, 1, 0x14, 0x13, 0x12, 0x11];
+        let floor = [0x0D, 0x0C, 0x0B, 0x0A, 0x1D, 0x1C, 0x1B, 0x1A];
+        let report = [start, weight, floor].concat();
+        assert_eq!(report_area(&answer)[..], report);
         let mut side = [0; 32];
         (side[0], side[1], side[31]) = (2, 0x81, 0x80);
         assert_eq!(side_area(&answer), side);

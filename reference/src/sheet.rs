@@ -7,8 +7,18 @@ pub const LEAST_NODES: usize = 2;
 pub const MOST_NODES: usize = 256;
 pub const MOST_LINKS: usize = 2048;
 pub const MOST_TREES: usize = 32;
-pub const MOST_WEIGHT: u64 = 1_000_000;
+pub const MOST_WEIGHT: u64 = CURRENT.most_weight;
 pub const LONGEST_SHEET: usize = 26_757;
+
+/// What the formats of link sheets differ in.
+pub struct Format {
+    pub most_weight: u64,
+}
+
+/// Document 01's format, of units already sold.
+pub const BASE: Format = Format { most_weight: 1_000_000 };
+/// The format in force: every weight of four bytes is allowed.
+pub const CURRENT: Format = Format { most_weight: u32::MAX as u64 };
 
 /// The bits of a link record's map byte.
 pub const FIRST_END_BIT: u8 = 1;
@@ -78,13 +88,18 @@ fn number(bytes: &[u8]) -> u64 {
     bytes.iter().rev().fold(0, |value, &byte| value * 256 + u64::from(byte))
 }
 
-/// The network of a sheet, or the first of refusals 3 to 16.
+/// The network of a sheet in the format in force, or the first of refusals 3 to 16.
 pub fn read(sheet: &[u8]) -> Result<Network, Refusal> {
+    read_in(&CURRENT, sheet)
+}
+
+/// The network of a sheet in that format, or the first of refusals 3 to 16.
+pub fn read_in(format: &Format, sheet: &[u8]) -> Result<Network, Refusal> {
     let mut unread = Unread(sheet);
     let (nodes, link_count, tree_count) = read_header(&mut unread)?;
     let mut links: Vec<Link> = Vec::new();
     for place in 0..link_count {
-        let link = read_link(&mut unread, nodes, place, links.last().copied())?;
+        let link = read_link(&mut unread, format, nodes, place, links.last().copied())?;
         links.push(link);
     }
     let mut trees = Vec::new();
@@ -116,7 +131,13 @@ fn read_header(unread: &mut Unread) -> Result<(usize, usize, usize), Refusal> {
     Ok((nodes, links, trees))
 }
 
-fn read_link(unread: &mut Unread, nodes: usize, at: usize, before: Option<Link>) -> Result<Link, Refusal> {
+fn read_link(
+    unread: &mut Unread,
+    format: &Format,
+    nodes: usize,
+    at: usize,
+    before: Option<Link>,
+) -> Result<Link, Refusal> {
     let place = Place::Link(at);
     let Some(&[map]) = unread.take(1) else {
         return refuse(place, 7);
@@ -130,7 +151,7 @@ fn read_link(unread: &mut Unread, nodes: usize, at: usize, before: Option<Link>)
     if link.first >= nodes || link.second >= nodes || link.first == link.second {
         return refuse(place, 10);
     }
-    if link.weight > MOST_WEIGHT {
+    if link.weight > format.most_weight {
         return refuse(place, 11);
     }
     Ok(link)

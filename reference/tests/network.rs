@@ -114,11 +114,11 @@ fn a_report_has_title_lines_and_meaning() {
 
 #[test]
 fn a_refusal_is_explained() {
-    let text = "nodes 2\nlink 0-1:1000001\ntree share 1 links 0\n";
+    let text = "nodes 2\nlink 0-1:1\nlink 0-1:1\ntree share 1 links 0 1\n";
     let named =
-        "refused.net\nrefused 11\nThe sheet is refused for line 2: link 0 weighs 1000001, and the monitor takes at \
-                 most 1000000.\n";
-    assert_eq!(report("refused.net", text, "echo refused 11"), (Some(0), named.to_string(), String::new()));
+        "refused.net\nrefused 14\nThe sheet is refused for line 4: tree 0 names 2 of the links, and a tree of 2 \
+                 nodes has 1.\n";
+    assert_eq!(report("refused.net", text, "echo refused 14"), (Some(0), named.to_string(), String::new()));
 }
 
 #[test]
@@ -138,13 +138,13 @@ fn a_program_that_prints_no_report_is_an_error() {
 
 #[test]
 fn another_refusal_than_the_networks_and_an_answer_are_an_error() {
-    let text = "nodes 2\nlink 0-1:1000001\ntree share 1 links 0\n";
+    let text = "nodes 2\nlink 1-1:4\ntree share 1 links 0\n";
     for (name, commands) in
-        [("number.net", "echo refused 12"), ("answered.net", "echo answer 1 1000001 3 0 0 - 1; echo side 1")]
+        [("number.net", "echo refused 12"), ("answered.net", "echo answer 1 4 3 0 0 - 1; echo side 1")]
     {
         let (status, printed, errors) = report(name, text, commands);
         assert_eq!((status, printed.as_str()), (Some(1), ""), "{name}");
-        assert!(errors.starts_with(name) && errors.ends_with(": the sheet has to be refused, number 11\n"), "{errors}");
+        assert!(errors.starts_with(name) && errors.ends_with(": the sheet has to be refused, number 10\n"), "{errors}");
     }
 }
 

@@ -11,7 +11,7 @@ use records::header::Counts;
 use survey::mark_found;
 use survey::search_trees;
 ghost use mathlib.Core.Path.{_≡_};
-ghost use Prim.Native.Nat.{_+_, _*_, _≤_, _<_};
+ghost use Prim.Native.Nat.{_+_, _*_, _≤_};
 ghost use lib.ListN.{length};
 ghost use Rattle.cuts.specs.Sums.{countTo};
 ghost use Rattle.cuts.specs.Network.{flag};
@@ -19,8 +19,8 @@ ghost use Rattle.cuts.specs.Answer.{Answer, verdictOf};
 ghost use Rattle.trees.specs.Growing.{EndArrays};
 ghost use Rattle.trees.specs.Marks.{marks};
 ghost use Rattle.choice.specs.Choice.{Says, chosen};
-ghost use Rattle.sheet.specs.Sheet.{base, treeLength, Accepted};
-ghost use Rattle.sheet.specs.Areas.{secondLink, sideBytes, reportBytes, written, sideAfter, reportAfter};
+ghost use Rattle.sheet.specs.Sheet.{current, treeLength, Accepted};
+ghost use Rattle.sheet.specs.Areas.{secondLink, sideBytes, reportLength, reportBytes, written, sideAfter, reportAfter};
 ghost use Rattle.records.specs.Answers.{countsOf};
 ghost use Rattle.reader.specs.Answers.{networkAt};
 
@@ -40,21 +40,21 @@ fn write_areas(
     found: Found,
     floor: u64,
 )
-    requires { ⌜ (32 ≤ length (now side)) × (16 ≤ length (now report)) × (length (now cut) ≡ 256) × (nodes ≤ 256) ⌝ }
-    requires { ⌜ (found .weight < 4294967296) × (floor < 4294967296) ⌝ }
+    requires { ⌜ (32 ≤ length (now side)) × (reportLength current ≤ length (now report)) × (length (now cut) ≡ 256) × (nodes ≤ 256) ⌝ }
     ensures { λ _. ⌜ ((a : Answer) → Says found (a .best) → now (cut .entry) ≡ marks (a .best .side) → a .count ≡ countTo nodes (flag (a .best .side)) → a .floor ≡ floor → a .verdict ≡ verdictOf floor (found .weight)
-        → (now (side .exit) ≡ written (sideBytes (a .best .side)) (now (side .entry))) × (now (report .exit) ≡ written (reportBytes a) (now (report .entry)))) ⌝ }
+        → (now (side .exit) ≡ written (sideBytes (a .best .side)) (now (side .entry))) × (now (report .exit) ≡ written (reportBytes current a) (now (report .entry)))) ⌝ }
 {
     write_side(side, cut);
     let count = count_marked(cut, nodes);
+    let weight = found.weight;
     let fields = Report {
-        verdict: verdict(floor, found.weight),
+        verdict: verdict(floor, weight),
         tree: found.tree,
         count: count,
         first: found.first,
         second: second_link(found.first, found.second),
-        weight: found.weight as u32,
-        floor: floor as u32,
+        weight: weight,
+        floor: floor,
     };
     write_report(report, fields);
 }
@@ -69,10 +69,10 @@ pub fn write_answer(
     ends: &[[u8; 2048]; 2],
     weights: &[u32],
 )
-    requires { ⌜ (at + c .trees * treeLength (c .links) ≤ length (now sheet)) × Accepted base (networkAt (now sheet) (now ends) (now weights) (countsOf c) at) ⌝ }
-    requires { ⌜ EndArrays (now ends) × (length (now weights) ≡ 2048) × (32 ≤ length (now side)) × (16 ≤ length (now report)) ⌝ }
+    requires { ⌜ (at + c .trees * treeLength (c .links) ≤ length (now sheet)) × Accepted current (networkAt (now sheet) (now ends) (now weights) (countsOf c) at) ⌝ }
+    requires { ⌜ EndArrays (now ends) × (length (now weights) ≡ 2048) × (32 ≤ length (now side)) × (reportLength current ≤ length (now report)) ⌝ }
     ensures { λ _. ⌜ (now (side .exit) ≡ sideAfter (networkAt (now (sheet .entry)) (now (ends .entry)) (now (weights .entry)) (countsOf c) at) (now (side .entry)))
-        × (now (report .exit) ≡ reportAfter (networkAt (now (sheet .entry)) (now (ends .entry)) (now (weights .entry)) (countsOf c) at) (now (report .entry))) ⌝ }
+        × (now (report .exit) ≡ reportAfter current (networkAt (now (sheet .entry)) (now (ends .entry)) (now (weights .entry)) (countsOf c) at) (now (report .entry))) ⌝ }
 {
     let nodes = c.nodes;
     let links = c.links;

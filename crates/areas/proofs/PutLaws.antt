@@ -1,9 +1,9 @@
 -- Bytes put into an area: by stores, right behind others, and as fields one behind the other.
 -- Assumes nothing.
-use Prim.Native.Nat.{ℕ, suc, _+_, _/_, _%_, _≤_, _<_}
+use Prim.Native.Nat.{ℕ, zero, suc, _+_, _*_, _/_, _%_, _^_, _≤_, _<_}
 use mathlib.Core.Path.{_≡_, sym, ap, _∙_}
 use mathlib.Core.List.{List, [], _∷_, _++_, append-nil, append-assoc}
-use native.Mathlib.Nat.{add-assoc, add-zero, mod-mod}
+use native.Mathlib.Nat.{add-assoc, add-zero, zero-add, suc-add}
 use native.Mathlib.Omega.{arith}
 use lib.ListN.{length, set, take, drop, length-append, take-append-drop}
 use lib.Seq.{sets-eq, take-at, drop-at, drop-drop, length-take-le}
@@ -63,6 +63,20 @@ pub bytesOf-two : (v : ℕ) → v < 65536 → bytesOf 2 v ≡ v % 256 ∷ v / 25
 unfolding bytesOf
 bytesOf-two v h = let e : v / 256 % 256 ≡ v / 256 = omega arith in rw e
 
-pub bytesOf-four : (v : ℕ) → bytesOf 4 v ≡ bytesOf 2 (v % 65536) ++ bytesOf 2 (v / 65536)
+-- its low bytes, then its high bytes
+bytesOf-halves : (w x v : ℕ) → bytesOf (w + x) v ≡ bytesOf w (v % 2 ^ (8 * w)) ++ bytesOf x (v / 2 ^ (8 * w))
 unfolding bytesOf
-bytesOf-four v = rw (mod-mod-pow v 8 8, field v 8 8, mod-mod, shr-shr v 8 8)
+bytesOf-halves zero x v = let e : v / 1 ≡ v = omega arith in rw (zero-add x, e)
+bytesOf-halves (suc w) x v =
+    let n : 8 * suc w ≡ 8 * w + 8 = omega arith in
+    let m : 8 + 8 * w ≡ 8 * w + 8 = omega arith in
+    rw (suc-add, n, mod-mod-pow v (8 * w) 8, field v (8 * w) 8, ← m, ← shr-shr v 8 (8 * w)) (ap (λ (bs : Bytes). v % 256 ∷ bs) (bytesOf-halves w x (v / 256)))
+
+-- a number put half by half
+pub put-halves : (w at v : ℕ) (old : Bytes) → at ≤ length old
+    → put (at + w) (bytesOf w (v / 2 ^ (8 * w))) (put at (bytesOf w (v % 2 ^ (8 * w))) old) ≡ put at (bytesOf (w + w) v) old
+put-halves w at v old h =
+    let low : Bytes = bytesOf w (v % 2 ^ (8 * w)) in
+    let high : Bytes = bytesOf w (v / 2 ^ (8 * w)) in
+    let l : length low ≡ w = bytesOf-length w (v % 2 ^ (8 * w)) in
+    ap (λ (n : ℕ). put (at + n) high (put at low old)) (sym l) ∙ put-put at low high old h ∙ ap (λ (bs : Bytes). put at bs old) (sym (bytesOf-halves w w v))

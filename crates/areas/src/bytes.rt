@@ -22,3 +22,12 @@ pub fn put_four(area: &mut [u8], at: usize, v: u32)
     put_two(area, at, (v % 65536) as u16);
     put_two(area, at + 2, (v / 65536) as u16);
 }
+
+// Writes a number into the eight bytes at a position.
+pub fn put_eight(area: &mut [u8], at: usize, v: u64)
+    requires { ⌜ at + 8 ≤ length (now area) ⌝ }
+    ensures { λ _. ⌜ now (area .exit) ≡ take at (now (area .entry)) ++ bytesOf 8 v ++ drop (at + 8) (now (area .entry)) ⌝ }
+{
+    put_four(area, at, (v % 4294967296) as u32);
+    put_four(area, at + 4, (v / 4294967296) as u32);
+}

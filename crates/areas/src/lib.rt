@@ -1,7 +1,7 @@
 // Writes the side area and the report area.
-pub mod bytes; // numbers of two and four bytes
+pub mod bytes; // numbers of two, four and eight bytes
 
-use crate::bytes::put_four;
+use crate::bytes::put_eight;
 use crate::bytes::put_two;
 ghost use mathlib.Core.Path.{_≡_};
 ghost use mathlib.Core.List.{[], _∷_};
@@ -12,13 +12,14 @@ ghost use Rattle.cuts.specs.Network.{flag};
 ghost use Rattle.cuts.specs.Cut.{Side};
 ghost use Rattle.trees.specs.Marks.{marks};
 ghost use Rattle.sheet.specs.Bytes.{byteOf, fieldBytes};
-ghost use Rattle.sheet.specs.Areas.{sideBytes, reportWidths, written};
+ghost use Rattle.sheet.specs.Sheet.{current};
+ghost use Rattle.sheet.specs.Areas.{sideBytes, reportWidths, reportLength, written};
 
 // The bytes of a side area that are written.
 pub const SIDE_LENGTH: usize = 32;
 
 // The bytes of a report area that are written.
-pub const REPORT_LENGTH: usize = 16;
+pub const REPORT_LENGTH: usize = 24;
 
 // What a report has for the second link of a single one.
 pub const NO_SECOND: u16 = 65535;
@@ -30,8 +31,8 @@ pub struct Report {
     pub count: u16,
     pub first: u16,
     pub second: u16,
-    pub weight: u32,
-    pub floor: u32,
+    pub weight: u64,
+    pub floor: u64,
 }
 
 // How many of the first `nodes` nodes are marked.
@@ -77,14 +78,14 @@ pub fn write_side(area: &mut [u8], side: &[u8])
 
 // Writes a report.
 pub fn write_report(area: &mut [u8], r: Report)
-    requires { ⌜ 16 ≤ length (now area) ⌝ }
-    ensures { λ _. ⌜ now (area .exit) ≡ written (fieldBytes reportWidths (r .verdict ∷ r .tree ∷ r .count ∷ r .first ∷ r .second ∷ r .weight ∷ r .floor ∷ [])) (now (area .entry)) ⌝ }
+    requires { ⌜ reportLength current ≤ length (now area) ⌝ }
+    ensures { λ _. ⌜ now (area .exit) ≡ written (fieldBytes (reportWidths current) (r .verdict ∷ r .tree ∷ r .count ∷ r .first ∷ r .second ∷ r .weight ∷ r .floor ∷ [])) (now (area .entry)) ⌝ }
 {
     area[0] = r.verdict;
     area[1] = r.tree;
     put_two(area, 2, r.count);
     put_two(area, 4, r.first);
     put_two(area, 6, r.second);
-    put_four(area, 8, r.weight);
-    put_four(area, 12, r.floor);
+    put_eight(area, 8, r.weight);
+    put_eight(area, 16, r.floor);
 }

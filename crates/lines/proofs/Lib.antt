@@ -1,3 +1,4 @@
 pub mod NodeLaws
 pub mod OutputLaws
 pub mod Cases
+pub mod Sold

@@ -16,11 +16,10 @@ use Rattle.cuts.proofs.SumLaws.{table-at}
 use Rattle.cuts.proofs.Handles.{select-congr}
 use Rattle.sheet.specs.Bytes.{Bytes, number, fields, mapBit}
 use Rattle.sheet.specs.Reading.{Reading, accepted, refused, numberOf}
-use Rattle.sheet.specs.Sheet.{Accepted, base, decode}
-use Rattle.sheet.specs.Areas.{sideBytes, reportWidths, written, sideAfter, reportAfter, sideRead, answerOf, answerRead}
+use Rattle.sheet.specs.Sheet.{Format, decode}
+use Rattle.sheet.specs.Areas.{sideBytes, reportWidths, reportLength, written, sideAfter, reportAfter, sideRead, answerOf, answerRead}
 use Rattle.sheet.proofs.ByteLaws.{mapBit-table}
-use Rattle.sheet.proofs.Acceptance.{decode-accepted, decode-zero}
-use Rattle.sheet.proofs.AreaLaws.{answer-back}
+use Rattle.sheet.proofs.Acceptance.{decode-zero}
 use Rattle.monitor.specs.Entry.{reading, sideLeft, reportLeft, Reported}
 use Rattle.monitor.proofs.EntryLaws.{reading-is}
 use Rattle.text.specs.Decimal.{Text, decimal}
@@ -35,44 +34,47 @@ sideFields-select : (s : Side) (f : ℕ → Bool) → ((k : ℕ) → k < 256 →
 unfolding sideFields
 sideFields-select s f h = ap (map decimal) (select-congr 256 (flag s) f h)
 
-pub answerLines-put : {old mid new : Text} {p q : ℕ} (fs : List ℕ) (side report : Bytes) → fs ≡ fields reportWidths report
+pub answerLines-put : {old mid new : Text} {p q : ℕ} (f : Format) (fs : List ℕ) (side report : Bytes) → fs ≡ fields (reportWidths f) report
     → Put old 0 (line answerWord (answerFields (answerOf fs (sideRead 256 side)))) mid p
     → Put mid p (line sideWord (map decimal (select 256 (mapBit side)))) new q
-    → Put old 0 (answerLines (answerRead 256 side report)) new q
+    → Put old 0 (answerLines (answerRead f 256 side report)) new q
 unfolding answerLines answerRead sideRead
-answerLines-put {old} {mid} {new} {p} {q} fs side report e h k =
+answerLines-put {old} {mid} {new} {p} {q} f fs side report e h k =
     subst (λ (t : Text). Put old 0 t new q)
     (ap₂ (λ (gs : List ℕ) (ns : List Text). line answerWord (answerFields (answerOf gs (sideRead 256 side))) ++ line sideWord ns) e
     (sym (sideFields-select (sideRead 256 side) (mapBit side) (table-at false 256 (mapBit side)))))
     (put-put h k)
 
 -- read from the areas with a flag for each of the 256 bits, an answer prints as it does with a flag for each node
-answerLines-back : (net : Network) → Accepted base net → (side report : Bytes) → answerLines (answerRead 256 (sideAfter net side) (reportAfter net report)) ≡ answerLines (answer net)
+answerLines-back : (f : Format) (net : Network) (side report : Bytes) → answerRead f (net .nodes) (sideAfter net side) (reportAfter f net report) ≡ answer net
+    → answerLines (answerRead f 256 (sideAfter net side) (reportAfter f net report)) ≡ answerLines (answer net)
 unfolding answerLines answerRead sideRead sideBytes
-answerLines-back net v side report =
-    let f : ℕ → Bool = flag (answer net .best .side) in
+answerLines-back f net side report back =
+    let test : ℕ → Bool = flag (answer net .best .side) in
     let area : Bytes = sideAfter net side in
-    ap₂ (λ (a : Answer) (ns : List Text). line answerWord (answerFields a) ++ line sideWord ns) (answer-back net v side report)
-    (sideFields-select (sideRead 256 area) f (λ k b. table-at false 256 (mapBit area) k b ∙ mapBit-table 32 f (drop 32 side) k (omega arith)))
+    ap₂ (λ (a : Answer) (ns : List Text). line answerWord (answerFields a) ++ line sideWord ns) back
+    (sideFields-select (sideRead 256 area) test (λ k b. table-at false 256 (mapBit area) k b ∙ mapBit-table 32 test (drop 32 side) k (omega arith)))
 
 -- ---- the output
 
--- areas of 32 and 16 bytes are long enough: the sheet decides
-module _ {sheet side report side′ report′ : Bytes} {n : ℕ} (said : Reported sheet side report side′ report′ n) (s : length side ≡ 32) (r : length report ≡ 16) where
-  decides : reading sheet side report ≡ decode base sheet
-  decides = reading-is sheet side report (omega arith) (omega arith)
+-- areas as long as what is written are long enough: the sheet decides
+module _ {f : Format} {sheet side report side′ report′ : Bytes} {n : ℕ} (said : Reported f sheet side report side′ report′ n) (s : length side ≡ 32)
+    (r : length report ≡ reportLength f) where
+  decides : reading f sheet side report ≡ decode f sheet
+  decides = reading-is f sheet side report (omega arith) (omega arith)
 
-  pub answer-output : n ≡ 0 → answerLines (answerRead 256 side′ report′) ≡ output (decode base sheet)
-  answer-output z =
-      let read = decode-zero base sheet (sym (said .number ∙ ap numberOf decides) ∙ z) in
+  pub answer-output : ((net : Network) → decode f sheet ≡ accepted net [] → answerRead f (net .nodes) (sideAfter net side) (reportAfter f net report) ≡ answer net)
+      → n ≡ 0 → answerLines (answerRead f 256 side′ report′) ≡ output (decode f sheet)
+  answer-output back z =
+      let read = decode-zero f sheet (sym (said .number ∙ ap numberOf decides) ∙ z) in
       let net : Network = read .0 in
-      let e : reading sheet side report ≡ accepted net [] = decides ∙ read .1 in
-      ap₂ (λ (a b : Bytes). answerLines (answerRead 256 a b)) (said .side-is ∙ ap (sideLeft side) e) (said .report-is ∙ ap (reportLeft report) e)
-      ∙ answerLines-back net (decode-accepted base sheet net [] (read .1)) side report
+      let e : reading f sheet side report ≡ accepted net [] = decides ∙ read .1 in
+      ap₂ (λ (a b : Bytes). answerLines (answerRead f 256 a b)) (said .side-is ∙ ap (sideLeft side) e) (said .report-is ∙ ap (reportLeft f report) e)
+      ∙ answerLines-back f net side report (back net (read .1))
       ∙ sym (ap output (read .1))
 
-  pub refused-output : (n ≡ 0 → ⊥) → refusedLine n ≡ output (decode base sheet)
-  refused-output z = step (decode base sheet) (said .number ∙ ap numberOf decides)
+  pub refused-output : (n ≡ 0 → ⊥) → refusedLine n ≡ output (decode f sheet)
+  refused-output z = step (decode f sheet) (said .number ∙ ap numberOf decides)
     where
       step : (d : Reading Network) → n ≡ numberOf d → refusedLine n ≡ output d
       step (accepted net rest) e = absurd (z e)

@@ -54,6 +54,6 @@ abbrev pub output : Reading Network → Text
 output (accepted net rest) = answerLines (answer net)
 output (refused n) = refusedLine n
 
--- 55 for the first line with each field of the report area at its largest, 919 for the second with all 256 nodes
+-- 75 for the first line with each field of the report area at its largest, 919 for the second with all 256 nodes
 abbrev pub mostOutput : ℕ
-mostOutput = 974
+mostOutput = 994

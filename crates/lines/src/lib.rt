@@ -4,7 +4,7 @@ use areas::REPORT_LENGTH;
 use areas::Report;
 use areas::SIDE_LENGTH;
 use monitor::wcut_report;
-use records::bytes::four;
+use records::bytes::eight;
 use records::bytes::two;
 use records::limits;
 use records::maps::bit_set;
@@ -17,19 +17,19 @@ ghost use Prim.Native.Nat.{ℕ, _+_, _≤_};
 ghost use lib.ListN.{length, take};
 ghost use Rattle.cuts.specs.Sums.{select};
 ghost use Rattle.sheet.specs.Bytes.{fields, mapBit};
-ghost use Rattle.sheet.specs.Sheet.{base, decode};
-ghost use Rattle.sheet.specs.Areas.{reportWidths, handleOf, answerOf, answerRead, written};
+ghost use Rattle.sheet.specs.Sheet.{current, decode};
+ghost use Rattle.sheet.specs.Areas.{reportWidths, reportLength, handleOf, answerOf, answerRead, written};
 ghost use Rattle.text.specs.Decimal.{decimal};
 ghost use Rattle.text.specs.Line.{space, fieldsText, line, Put};
 ghost use Rattle.lines.specs.Output.{answerWord, sideWord, secondField, answerFields, answerLines, refusedLine, output, mostOutput};
 
-// No output has more bytes: line 1 takes 55 with each field at its largest, line 2 with all 256 nodes 919.
-pub const MOST_OUTPUT: usize = 974;
+// No output has more bytes: line 1 takes 75 with each field at its largest, line 2 with all 256 nodes 919.
+pub const MOST_OUTPUT: usize = 994;
 
 // The report that stands in a report area.
 fn read_report(area: &[u8]) -> Report
-    requires { ⌜ length (now area) ≡ 16 ⌝ }
-    ensures { λ r. ⌜ (r .verdict ∷ r .tree ∷ r .count ∷ r .first ∷ r .second ∷ r .weight ∷ r .floor ∷ []) ≡ fields reportWidths (now (area .entry)) ⌝ }
+    requires { ⌜ length (now area) ≡ reportLength current ⌝ }
+    ensures { λ r. ⌜ (r .verdict ∷ r .tree ∷ r .count ∷ r .first ∷ r .second ∷ r .weight ∷ r .floor ∷ []) ≡ fields (reportWidths current) (now (area .entry)) ⌝ }
 {
     Report {
         verdict: area[0],
@@ -37,20 +37,20 @@ fn read_report(area: &[u8]) -> Report
         count: two(area, 2) as u16,
         first: two(area, 4) as u16,
         second: two(area, 6) as u16,
-        weight: four(area, 8),
-        floor: four(area, 12),
+        weight: eight(area, 8),
+        floor: eight(area, 16),
     }
 }
 
 // Writes the fields that say how light the cut is.
-fn put_bounds(out: &mut [u8], at: usize, verdict: u8, weight: u32, floor: u32) -> usize
-    requires { ⌜ at + 26 ≤ length (now out) ⌝ }
+fn put_bounds(out: &mut [u8], at: usize, verdict: u8, weight: u64, floor: u64) -> usize
+    requires { ⌜ at + 46 ≤ length (now out) ⌝ }
     ensures { λ r. ⌜ Put (now (out .entry)) at (fieldsText (decimal verdict ∷ decimal weight ∷ decimal floor ∷ [])) (now (out .exit)) r ⌝ }
-    ensures { λ r. ⌜ r ≤ at + 26 ⌝ }
+    ensures { λ r. ⌜ r ≤ at + 46 ⌝ }
 {
     let mut end = put_field(out, at, verdict as u64);
-    end = put_field(out, end, weight as u64);
-    put_field(out, end, floor as u64)
+    end = put_field(out, end, weight);
+    put_field(out, end, floor)
 }
 
 // Writes the field of the second link.
@@ -79,9 +79,9 @@ fn put_cut(out: &mut [u8], at: usize, tree: u8, first: u16, second: u16, count: 
 
 // Writes the line of a report.
 fn answer_line(out: &mut [u8], r: Report) -> usize
-    requires { ⌜ 55 ≤ length (now out) ⌝ }
+    requires { ⌜ 75 ≤ length (now out) ⌝ }
     ensures { λ end. ⌜ Put (now (out .entry)) 0 (line answerWord (answerFields (answerOf (r .verdict ∷ r .tree ∷ r .count ∷ r .first ∷ r .second ∷ r .weight ∷ r .floor ∷ []) []))) (now (out .exit)) end ⌝ }
-    ensures { λ end. ⌜ end ≤ 55 ⌝ }
+    ensures { λ end. ⌜ end ≤ 75 ⌝ }
 {
     let mut end = put_word(out, 0, b"answer");
     end = put_bounds(out, end, r.verdict, r.weight, r.floor);
@@ -119,9 +119,9 @@ fn side_line(out: &mut [u8], at: usize, side: &[u8]) -> usize
 
 // Writes both lines of an answer that stands in the two areas.
 fn answer_lines(out: &mut [u8], side: &[u8], report: &[u8]) -> usize
-    requires { ⌜ (974 ≤ length (now out)) × (length (now side) ≡ 32) × (length (now report) ≡ 16) ⌝ }
-    ensures { λ r. ⌜ Put (now (out .entry)) 0 (answerLines (answerRead 256 (now (side .entry)) (now (report .entry)))) (now (out .exit)) r ⌝ }
-    ensures { λ r. ⌜ r ≤ 974 ⌝ }
+    requires { ⌜ (mostOutput ≤ length (now out)) × (length (now side) ≡ 32) × (length (now report) ≡ reportLength current) ⌝ }
+    ensures { λ r. ⌜ Put (now (out .entry)) 0 (answerLines (answerRead current 256 (now (side .entry)) (now (report .entry)))) (now (out .exit)) r ⌝ }
+    ensures { λ r. ⌜ r ≤ mostOutput ⌝ }
 {
     let end = answer_line(out, read_report(report));
     side_line(out, end, side)
@@ -141,7 +141,7 @@ fn refused_line(out: &mut [u8], number: u32) -> usize
 // Reads a sheet and writes what the report program prints for it to the front of the buffer; the rest of the buffer is kept. Answers
 // how many bytes that is. The second promise follows from the first; it is what a caller needs to lend these bytes.
 pub fn report_lines(sheet: &[u8], out: &mut [u8; MOST_OUTPUT]) -> usize
-    ensures { λ r. ⌜ (r ≡ length (output (decode base (now (sheet .entry))))) × (r ≤ mostOutput) × (now (out .exit) ≡ written (output (decode base (now (sheet .entry)))) (now (out .entry))) ⌝ }
+    ensures { λ r. ⌜ (r ≡ length (output (decode current (now (sheet .entry))))) × (r ≤ mostOutput) × (now (out .exit) ≡ written (output (decode current (now (sheet .entry)))) (now (out .entry))) ⌝ }
     ensures { λ r. ⌜ (r ≤ length (now (out .exit))) × (r ≡ length (take r (now (out .exit)))) ⌝ }
 {
     let mut side = [0u8; SIDE_LENGTH];

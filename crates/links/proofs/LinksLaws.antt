@@ -15,7 +15,7 @@ use Rattle.trees.specs.Order.{part}
 use Rattle.trees.specs.Growing.{EndArrays}
 use Rattle.sheet.specs.Bytes.{Bytes}
 use Rattle.sheet.specs.Reading.{accepted, refused, records}
-use Rattle.sheet.specs.Sheet.{base, linkRecord, nextLink}
+use Rattle.sheet.specs.Sheet.{Format, linkRecord, nextLink}
 use Rattle.links.specs.Answers.{linkOf, linksOf}
 use Rattle.links.specs.declared.Link as link
 use Rattle.sheet.proofs.Acceptance.{GoodLink, good-link}
@@ -68,9 +68,9 @@ module _ (ends : List (List ℕ)) (k a b : ℕ) (e : EndArrays ends) where
     seconds = ap length seconds-put ∙ length-set (part ends 1) k b ∙ e .seconds;
   }
 
--- after k links, of `count` from the position `from` on: `at` is the position behind them, and l the last of them
-pub record LinksRun (s : Bytes) (from nodes count : ℕ) (ends : List (List ℕ)) (ws : List ℕ) (at : ℕ) (l : link.Link) (k : ℕ) : Type 0 where
-  pub run : Run (nextLink base nodes) count k (linksOf k (part ends 0) (part ends 1) ws) (drop at s) (drop from s)
+-- after k links, of `count` from the position `from` on, in the format f: `at` is the position behind them, and l the last of them
+pub record LinksRun (f : Format) (s : Bytes) (from nodes count : ℕ) (ends : List (List ℕ)) (ws : List ℕ) (at : ℕ) (l : link.Link) (k : ℕ) : Type 0 where
+  pub run : Run (nextLink f nodes) count k (linksOf k (part ends 0) (part ends 1) ws) (drop at s) (drop from s)
   pub last : linkOf l ≡ getD (linksOf k (part ends 0) (part ends 1) ws) (k - 1) noLink
   pub inside : at ≤ length s
   pub within : k ≤ count
@@ -79,25 +79,25 @@ pub record LinksRun (s : Bytes) (from nodes count : ℕ) (ends : List (List ℕ)
   pub weights : length ws ≡ 2_048
   pub room : count ≤ 2_048
 
-module _ {s : Bytes} {from nodes count : ℕ} {ends : List (List ℕ)} {ws : List ℕ} {at : ℕ} {l : link.Link} {k : ℕ}
-    (w : LinksRun s from nodes count ends ws at l k) where
+module _ {f : Format} {s : Bytes} {from nodes count : ℕ} {ends : List (List ℕ)} {ws : List ℕ} {at : ℕ} {l : link.Link} {k : ℕ}
+    (w : LinksRun f s from nodes count ends ws at l k) where
   -- the links read so far
   abbrev got : List Link
   got = linksOf k (part ends 0) (part ends 1) ws
 
   -- what is read next is the next link
-  next-is : nextLink base nodes got (drop at s) ≡ linkRecord base nodes (eqb k 0) (linkOf l) (drop at s)
+  next-is : nextLink f nodes got (drop at s) ≡ linkRecord f nodes (eqb k 0) (linkOf l) (drop at s)
   next-is = rw (linksOf-length k (part ends 0) (part ends 1) ws, ← w .last)
 
   module _ (more : k < count) where
-    pub links-stop : (n : ℕ) → refused n ≡ linkRecord base nodes (eqb k 0) (linkOf l) (drop at s) → refused n ≡ records (nextLink base nodes) count [] (drop from s)
+    pub links-stop : (n : ℕ) → refused n ≡ linkRecord f nodes (eqb k 0) (linkOf l) (drop at s) → refused n ≡ records (nextLink f nodes) count [] (drop from s)
     links-stop n e = run-stop (w .run) more (next-is ∙ sym e)
 
-    module _ (next : link.Link) (end : ℕ) (e : accepted (linkOf next) (drop end s) ≡ linkRecord base nodes (eqb k 0) (linkOf l) (drop at s)) where
-      pub next-good : GoodLink base nodes (linkOf next)
-      next-good = good-link base nodes got (drop at s) (linkOf next) (drop end s) (next-is ∙ sym e)
+    module _ (next : link.Link) (end : ℕ) (e : accepted (linkOf next) (drop end s) ≡ linkRecord f nodes (eqb k 0) (linkOf l) (drop at s)) where
+      pub next-good : GoodLink f nodes (linkOf next)
+      next-good = good-link f nodes got (drop at s) (linkOf next) (drop end s) (next-is ∙ sym e)
 
-      pub links-more : end ≤ length s → LinksRun s from nodes count (putEnds ends k (next .first) (next .second)) (set ws k (next .weight)) end next (k + 1)
+      pub links-more : end ≤ length s → LinksRun f s from nodes count (putEnds ends k (next .first) (next .second)) (set ws k (next .weight)) end next (k + 1)
       links-more i =
           let r = w .room in
           let held =
@@ -117,5 +117,5 @@ module _ {s : Bytes} {from nodes count : ℕ} {ends : List (List ℕ)} {ws : Lis
             room = r;
           }
 
-  pub links-done : k ≡ count → accepted (linksOf count (part ends 0) (part ends 1) ws) (drop at s) ≡ records (nextLink base nodes) count [] (drop from s)
+  pub links-done : k ≡ count → accepted (linksOf count (part ends 0) (part ends 1) ws) (drop at s) ≡ records (nextLink f nodes) count [] (drop from s)
   links-done e = rw e at (run-done (w .run) e)

@@ -14,7 +14,7 @@ use Rattle.cuts.specs.Network.{Link}
 use Rattle.cuts.proofs.FlagLaws.{truth, or-left, or-right}
 use Rattle.sheet.specs.Bytes.{Bytes, number}
 use Rattle.sheet.specs.Reading.{firstFailing, accepted, refused, unless}
-use Rattle.sheet.specs.Sheet.{Format, base, fieldStart, recordLength, field, linkIn, shapeChecks, valueChecks, linkRecord}
+use Rattle.sheet.specs.Sheet.{Format, current, fieldStart, recordLength, field, linkIn, shapeChecks, valueChecks, linkRecord}
 use Rattle.links.specs.Answers.{fieldsOf}
 use Rattle.sheet.proofs.ReadingLaws.{unless-append, unless-refused}
 use Rattle.sheet.proofs.Acceptance.{GoodLink}
@@ -22,109 +22,125 @@ use Rattle.sheet.proofs.ByteLaws.{only-digit, front-drop}
 
 -- ---- the fields of a link record
 
+fieldStart-zero : (f : Format) (m : ℕ) → fieldStart f m 0 ≡ 0
+unfolding fieldStart
+fieldStart-zero f m = refl
+
 fieldStart-suc : (f : Format) (m i : ℕ) → fieldStart f m (suc i) ≡ fieldStart f m i + getD (f .widths) i 0 * (m / 2 ^ i % 2)
 unfolding fieldStart
 fieldStart-suc f m i = ap (λ (x : ℕ). fieldStart f m i + x) (only-digit (getD (f .widths) i 0) (m / 2 ^ i))
 
-module _ (m : ℕ) where
-  fieldStart-second : fieldStart base m 1 ≡ 2 * (m % 2)
-  unfolding fieldStart
-  fieldStart-second = let a = fieldStart-suc base m 0 in omega arith
+-- the first three fields are both ends, of two bytes each, and the weight, of four
+pub record ThreeFields (f : Format) : Type 0 where
+  pub first-two : getD (f .widths) 0 0 ≡ 2
+  pub second-two : getD (f .widths) 1 0 ≡ 2
+  pub weight-four : getD (f .widths) 2 0 ≡ 4
 
-  fieldStart-weight : fieldStart base m 2 ≡ 2 * (m % 2) + 2 * (m / 2 % 2)
-  fieldStart-weight = let a = fieldStart-second in let b = fieldStart-suc base m 1 in omega arith
+pub current-fields : ThreeFields current
+current-fields = record { first-two = refl; second-two = refl; weight-four = refl }
 
-  pub fieldStart-end : fieldStart base m 3 ≡ 2 * (m % 2) + 2 * (m / 2 % 2) + 4 * (m / 4 % 2)
-  fieldStart-end = let a = fieldStart-weight in let b = fieldStart-suc base m 2 in omega arith
+module _ {f : Format} (w : ThreeFields f) (m : ℕ) where
+  fieldStart-second : fieldStart f m 1 ≡ 2 * (m % 2)
+  fieldStart-second = let a = rw (w .first-two) at (fieldStart-suc f m 0) in omega (arith, fieldStart-zero f m)
 
-  pub fieldsOf-pair : (k n : ℕ) → k ≤ m → m ≤ suc k → (0, n) ≡ fieldsOf k → (0, n) ≡ fieldsOf (suc k) → (0, n) ≡ fieldsOf m
+  fieldStart-weight : fieldStart f m 2 ≡ 2 * (m % 2) + 2 * (m / 2 % 2)
+  fieldStart-weight = let a = fieldStart-second in let b = rw (w .second-two) at (fieldStart-suc f m 1) in omega arith
+
+  pub fieldStart-end : fieldStart f m 3 ≡ 2 * (m % 2) + 2 * (m / 2 % 2) + 4 * (m / 4 % 2)
+  fieldStart-end = let a = fieldStart-weight in let b = rw (w .weight-four) at (fieldStart-suc f m 2) in omega arith
+
+module _ (f : Format) (m : ℕ) where
+  pub fieldsOf-pair : (k n : ℕ) → k ≤ m → m ≤ suc k → (0, n) ≡ fieldsOf f k → (0, n) ≡ fieldsOf f (suc k) → (0, n) ≡ fieldsOf f m
   fieldsOf-pair k n a b p q = ⊎-elim (λ e. rw (← e) p) (λ l. let e : m ≡ suc k = omega arith in rw e q) (eq-or-lt-of-le a)
 
-  pub fieldsOf-above : 8 ≤ m → (8, 0) ≡ fieldsOf m
-  fieldsOf-above h = rw (le-leb 8 m h)
+  pub fieldsOf-above : 2 ^ length (f .widths) ≤ m → (8, 0) ≡ fieldsOf f m
+  fieldsOf-above h = rw (le-leb (2 ^ length (f .widths)) m h)
 
-  pub fieldsOf-allowed : (n : ℕ) → (0, n) ≡ fieldsOf m → (m < 8) × (n ≡ fieldStart base m 3)
-  fieldsOf-allowed n e = step (leb 8 m) refl e
+  pub fieldsOf-allowed : (n : ℕ) → (0, n) ≡ fieldsOf f m → (m < 2 ^ length (f .widths)) × (n ≡ fieldStart f m (length (f .widths)))
+  fieldsOf-allowed n e = step (leb (2 ^ length (f .widths)) m) refl e
     where
-      step : (b : Bool) → leb 8 m ≡ b → _≡_ {A = ℕ × ℕ} (0, n) (cond b (8, 0) (0, fieldStart base m 3)) → (m < 8) × (n ≡ fieldStart base m 3)
+      step : (b : Bool) → leb (2 ^ length (f .widths)) m ≡ b → _≡_ {A = ℕ × ℕ} (0, n) (cond b (8, 0) (0, fieldStart f m (length (f .widths))))
+          → (m < 2 ^ length (f .widths)) × (n ≡ fieldStart f m (length (f .widths)))
       step true a e = let z : _≡_ {A = ℕ} 0 8 = λ i. e i .0 in absurd (omega arith)
-      step false a e = (leb-false 8 m a, λ i. e i .1)
+      step false a e = (leb-false (2 ^ length (f .widths)) m a, λ i. e i .1)
 
-  pub fieldsOf-refused : (8, 0) ≡ fieldsOf m → 8 ≤ m
-  fieldsOf-refused e = step (leb 8 m) refl e
+  pub fieldsOf-refused : (8, 0) ≡ fieldsOf f m → 2 ^ length (f .widths) ≤ m
+  fieldsOf-refused e = step (leb (2 ^ length (f .widths)) m) refl e
     where
-      step : (b : Bool) → leb 8 m ≡ b → _≡_ {A = ℕ × ℕ} (8, 0) (cond b (8, 0) (0, fieldStart base m 3)) → 8 ≤ m
-      step true a e = leb-true 8 m a
+      step : (b : Bool) → leb (2 ^ length (f .widths)) m ≡ b → _≡_ {A = ℕ × ℕ} (8, 0) (cond b (8, 0) (0, fieldStart f m (length (f .widths)))) → 2 ^ length (f .widths) ≤ m
+      step true a e = leb-true (2 ^ length (f .widths)) m a
       step false a e = let z : _≡_ {A = ℕ} 8 0 = λ i. e i .0 in absurd (omega arith)
 
 module _ (at m : ℕ) (s : Bytes) (e : m ≡ getD s at 0) where
-  -- the field of bit i, where b is that bit and p the field's position
-  field-at : (f : Format) (i before b p : ℕ) → b ≡ m / 2 ^ i % 2 → p ≡ at + 1 + fieldStart f m i
-      → cond (eqb b 1) (number (getD (f .widths) i 0) (drop p s)) before ≡ field f i before (drop at s)
+  -- the field of bit i and width w, where b is that bit and p the field's position
+  field-at : (f : Format) (i w before b p : ℕ) → getD (f .widths) i 0 ≡ w → b ≡ m / 2 ^ i % 2 → p ≡ at + 1 + fieldStart f m i
+      → cond (eqb b 1) (number w (drop p s)) before ≡ field f i before (drop at s)
   unfolding field
-  field-at f i before b p q r =
+  field-at f i w before b p v q r =
       let place : p ≡ at + (1 + fieldStart f m i) = omega arith in
-      rw (front-drop at s, ← e, drop-drop, q, place)
+      rw (front-drop at s, ← e, drop-drop, q, place, v)
 
-  first-at : (before : ℕ) → cond (eqb (m % 2) 1) (number 2 (drop (at + 1) s)) before ≡ field base 0 before (drop at s)
-  unfolding fieldStart
-  first-at before = field-at base 0 before (m % 2) (at + 1) (omega arith) (omega arith)
+  module _ {f : Format} (w : ThreeFields f) where
+    first-at : (before : ℕ) → cond (eqb (m % 2) 1) (number 2 (drop (at + 1) s)) before ≡ field f 0 before (drop at s)
+    unfolding fieldStart
+    first-at before = field-at f 0 2 before (m % 2) (at + 1) (w .first-two) (omega arith) (omega arith)
 
-  second-at : (before : ℕ) → cond (eqb (m / 2 % 2) 1) (number 2 (drop (at + 1 + 2 * (m % 2)) s)) before ≡ field base 1 before (drop at s)
-  second-at before = field-at base 1 before (m / 2 % 2) (at + 1 + 2 * (m % 2)) (omega arith) (omega (arith, fieldStart-second m))
+    second-at : (before : ℕ) → cond (eqb (m / 2 % 2) 1) (number 2 (drop (at + 1 + 2 * (m % 2)) s)) before ≡ field f 1 before (drop at s)
+    second-at before = field-at f 1 2 before (m / 2 % 2) (at + 1 + 2 * (m % 2)) (w .second-two) (omega arith) (omega (arith, fieldStart-second w m))
 
-  weight-at : (before : ℕ) → cond (eqb (m / 4 % 2) 1) (number 4 (drop (at + 1 + 2 * (m % 2) + 2 * (m / 2 % 2)) s)) before ≡ field base 2 before (drop at s)
-  weight-at before = field-at base 2 before (m / 4 % 2) (at + 1 + 2 * (m % 2) + 2 * (m / 2 % 2)) (omega arith) (omega (arith, fieldStart-weight m))
+    weight-at : (before : ℕ) → cond (eqb (m / 4 % 2) 1) (number 4 (drop (at + 1 + 2 * (m % 2) + 2 * (m / 2 % 2)) s)) before ≡ field f 2 before (drop at s)
+    weight-at before =
+        field-at f 2 4 before (m / 4 % 2) (at + 1 + 2 * (m % 2) + 2 * (m / 2 % 2)) (w .weight-four) (omega arith) (omega (arith, fieldStart-weight w m))
 
-  pub link-at : (before l : Link) → l .first ≡ cond (eqb (m % 2) 1) (number 2 (drop (at + 1) s)) (before .first)
-      → l .second ≡ cond (eqb (m / 2 % 2) 1) (number 2 (drop (at + 1 + 2 * (m % 2)) s)) (before .second)
-      → l .weight ≡ cond (eqb (m / 4 % 2) 1) (number 4 (drop (at + 1 + 2 * (m % 2) + 2 * (m / 2 % 2)) s)) (before .weight) → l ≡ linkIn base before (drop at s)
-  unfolding linkIn
-  link-at before l p q r =
-      λ i. record { first = (p ∙ first-at (before .first)) i; second = (q ∙ second-at (before .second)) i; weight = (r ∙ weight-at (before .weight)) i }
+    pub link-at : (before l : Link) → l .first ≡ cond (eqb (m % 2) 1) (number 2 (drop (at + 1) s)) (before .first)
+        → l .second ≡ cond (eqb (m / 2 % 2) 1) (number 2 (drop (at + 1 + 2 * (m % 2)) s)) (before .second)
+        → l .weight ≡ cond (eqb (m / 4 % 2) 1) (number 4 (drop (at + 1 + 2 * (m % 2) + 2 * (m / 2 % 2)) s)) (before .weight) → l ≡ linkIn f before (drop at s)
+    unfolding linkIn
+    link-at before l p q r =
+        λ i. record { first = (p ∙ first-at (before .first)) i; second = (q ∙ second-at (before .second)) i; weight = (r ∙ weight-at (before .weight)) i }
 
 -- ---- which check a link record fails
 
 -- what refusal 8 says of a map byte
-abbrev wrongMap : Bool → ℕ → Bool
-wrongMap start m = leb 8 m || (start && not (eqb (m % 8) 7))
+abbrev wrongMap : Format → Bool → ℕ → Bool
+wrongMap f start m = leb (2 ^ length (f .widths)) m || (start && not (eqb (m % 8) 7))
 
-wrong-start : (m : ℕ) → (m ≡ 7 → ⊥) → wrongMap true m ≡ true
-wrong-start m h = step (truth (leb 8 m))
+wrong-start : (f : Format) (m : ℕ) → (m < 2 ^ length (f .widths) → m % 8 ≡ 7 → ⊥) → wrongMap f true m ≡ true
+wrong-start f m h = step (truth (leb (2 ^ length (f .widths)) m))
   where
-    step : (leb 8 m ≡ true) ⊎ (leb 8 m ≡ false) → wrongMap true m ≡ true
+    step : (leb (2 ^ length (f .widths)) m ≡ true) ⊎ (leb (2 ^ length (f .widths)) m ≡ false) → wrongMap f true m ≡ true
     step (inl a) = rw a
-    step (inr a) = let b = leb-false 8 m a in let z : m % 8 ≡ 7 → ⊥ = λ q. h (omega arith) in simp (a, ne-eqb (m % 8) 7 z)
+    step (inr a) = simp (a, ne-eqb (m % 8) 7 (h (leb-false (2 ^ length (f .widths)) m a)))
 
-right-map : (start : Bool) (m : ℕ) → m < 8 → (start ≡ true → m ≡ 7) → wrongMap start m ≡ false
-right-map true m h e = let a : m % 8 ≡ 7 = let q = e refl in omega arith in simp (lt-leb 8 m h, eq-eqb (m % 8) 7 a)
-right-map false m h e = simp (lt-leb 8 m h)
+right-map : (f : Format) (start : Bool) (m : ℕ) → m < 2 ^ length (f .widths) → (start ≡ true → m % 8 ≡ 7) → wrongMap f start m ≡ false
+right-map f true m h e = simp (lt-leb (2 ^ length (f .widths)) m h, eq-eqb (m % 8) 7 (e refl))
+right-map f false m h e = simp (lt-leb (2 ^ length (f .widths)) m h)
 
-module _ (start : Bool) (at : ℕ) (s : Bytes) where
-  shape-at : firstFailing (shapeChecks base start (drop at s))
-      ≡ cond (eqb (length s - at) 0) 7 (cond (wrongMap start (getD s at 0)) 8 (cond (ltb (length s - at) (1 + fieldStart base (getD s at 0) 3)) 9 0))
+module _ (f : Format) (start : Bool) (at : ℕ) (s : Bytes) where
+  shape-at : firstFailing (shapeChecks f start (drop at s))
+      ≡ cond (eqb (length s - at) 0) 7 (cond (wrongMap f start (getD s at 0)) 8 (cond (ltb (length s - at) (1 + fieldStart f (getD s at 0) (length (f .widths)))) 9 0))
   unfolding firstFailing shapeChecks
   shape-at = rw (length-drop, front-drop at s)
 
-  pub no-map-byte : length s ≤ at → firstFailing (shapeChecks base start (drop at s)) ≡ 7
+  pub no-map-byte : length s ≤ at → firstFailing (shapeChecks f start (drop at s)) ≡ 7
   no-map-byte h = rw (shape-at, eq-eqb (length s - at) 0 (omega arith))
 
   module _ (h : at < length s) where
     some : eqb (length s - at) 0 ≡ false
     some = ne-eqb (length s - at) 0 (λ e. omega arith)
 
-    pub map-byte-above : 8 ≤ getD s at 0 → firstFailing (shapeChecks base start (drop at s)) ≡ 8
-    map-byte-above m = rw (shape-at, some, le-leb 8 (getD s at 0) m)
+    pub map-byte-above : 2 ^ length (f .widths) ≤ getD s at 0 → firstFailing (shapeChecks f start (drop at s)) ≡ 8
+    map-byte-above m = rw (shape-at, some, le-leb (2 ^ length (f .widths)) (getD s at 0) m)
 
-    pub map-byte-of-start : start ≡ true → (getD s at 0 ≡ 7 → ⊥) → firstFailing (shapeChecks base start (drop at s)) ≡ 8
-    map-byte-of-start e m = rw (shape-at, some, e, wrong-start (getD s at 0) m)
+    pub map-byte-of-start : start ≡ true → (getD s at 0 < 2 ^ length (f .widths) → getD s at 0 % 8 ≡ 7 → ⊥) → firstFailing (shapeChecks f start (drop at s)) ≡ 8
+    map-byte-of-start e m = rw (shape-at, some, e, wrong-start f (getD s at 0) m)
 
-    module _ (m : getD s at 0 < 8) (e : start ≡ true → getD s at 0 ≡ 7) where
-      pub field-cut-off : length s < at + 1 + fieldStart base (getD s at 0) 3 → firstFailing (shapeChecks base start (drop at s)) ≡ 9
-      field-cut-off l = rw (shape-at, some, right-map start (getD s at 0) m e, lt-ltb (length s - at) (1 + fieldStart base (getD s at 0) 3) (omega arith))
+    module _ (m : getD s at 0 < 2 ^ length (f .widths)) (e : start ≡ true → getD s at 0 % 8 ≡ 7) where
+      pub field-cut-off : length s < at + 1 + fieldStart f (getD s at 0) (length (f .widths)) → firstFailing (shapeChecks f start (drop at s)) ≡ 9
+      field-cut-off l = rw (shape-at, some, right-map f start (getD s at 0) m e, lt-ltb (length s - at) (1 + fieldStart f (getD s at 0) (length (f .widths))) (omega arith))
 
-      pub record-whole : at + 1 + fieldStart base (getD s at 0) 3 ≤ length s → firstFailing (shapeChecks base start (drop at s)) ≡ 0
-      record-whole l = rw (shape-at, some, right-map start (getD s at 0) m e, le-ltb (length s - at) (1 + fieldStart base (getD s at 0) 3) (omega arith))
+      pub record-whole : at + 1 + fieldStart f (getD s at 0) (length (f .widths)) ≤ length s → firstFailing (shapeChecks f start (drop at s)) ≡ 0
+      record-whole l = rw (shape-at, some, right-map f start (getD s at 0) m e, le-ltb (length s - at) (1 + fieldStart f (getD s at 0) (length (f .widths))) (omega arith))
 
 module _ (f : Format) (nodes : ℕ) (l : Link) where
   pub ends-refused : (nodes ≤ l .first) ⊎ ((nodes ≤ l .second) ⊎ (l .first ≡ l .second)) → firstFailing (valueChecks f nodes l) ≡ 10
@@ -132,10 +148,6 @@ module _ (f : Format) (nodes : ℕ) (l : Link) where
   ends-refused (inl h) = rw (le-leb nodes (l .first) h)
   ends-refused (inr (inl h)) = rw (or-left _ (eqb (l .first) (l .second)) (or-right (leb nodes (l .first)) _ (le-leb nodes (l .second) h)))
   ends-refused (inr (inr h)) = rw (or-right (leb nodes (l .first) || leb nodes (l .second)) _ (eq-eqb (l .first) (l .second) h))
-
-  pub weight-refused : l .first < nodes → l .second < nodes → (l .first ≡ l .second → ⊥) → f .weightLimit < l .weight → firstFailing (valueChecks f nodes l) ≡ 11
-  unfolding firstFailing valueChecks
-  weight-refused a b d h = simp (lt-leb nodes (l .first) a, lt-leb nodes (l .second) b, ne-eqb (l .first) (l .second) d, lt-ltb (f .weightLimit) (l .weight) h)
 
   pub link-pass : GoodLink f nodes l → firstFailing (valueChecks f nodes l) ≡ 0
   unfolding firstFailing valueChecks

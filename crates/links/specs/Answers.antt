@@ -1,12 +1,12 @@
 -- What the answers and arrays of this crate's functions say, case by case: the link read and the bytes behind it, or document 01's
 -- number. Assumes nothing.
 --   fieldsSay r           the refusal number of a map byte and the bytes of the fields behind it, as r says them
---   fieldsOf m            the same of the map byte m, by the definition
+--   fieldsOf f m          the same of the map byte m, by the definition of the format f
 --   linkOf l              the link that the struct holds
 --   linkSays s r          what r says where it answers to reading a link from s
 --   LinkInside s r        the position behind the link lies in s
 --   linksOf m fs ss ws    the m links whose first ends, second ends and weights stand in the arrays
-use Prim.Native.Nat.{ℕ, _≤_}
+use Prim.Native.Nat.{ℕ, _^_, _≤_}
 use mathlib.Core.Bool.{cond}
 use mathlib.Core.List.{List}
 use lib.ListN.{length, getD, drop}
@@ -15,7 +15,7 @@ use Rattle.cuts.specs.Sums.{table}
 use Rattle.cuts.specs.Network.{Link}
 use Rattle.sheet.specs.Bytes.{Bytes}
 use Rattle.sheet.specs.Reading.{Reading, accepted, refused}
-use Rattle.sheet.specs.Sheet.{base, fieldStart}
+use Rattle.sheet.specs.Sheet.{Format, fieldStart}
 use Rattle.links.specs.declared.Link as link
 use Rattle.links.specs.declared.Fields as fields
 use Rattle.links.specs.declared.Fields.the-variants as fields-are
@@ -29,8 +29,8 @@ abbrev pub fieldsSay : fields.Fields → ℕ × ℕ
 fieldsSay (fields-are.Length n) = (0, n)
 fieldsSay fields-are.Refused = (8, 0)
 
-abbrev pub fieldsOf : ℕ → ℕ × ℕ
-fieldsOf m = cond (leb 8 m) (8, 0) (0, fieldStart base m 3)
+abbrev pub fieldsOf : Format → ℕ → ℕ × ℕ
+fieldsOf f m = cond (leb (2 ^ length (f .widths)) m) (8, 0) (0, fieldStart f m (length (f .widths)))
 
 abbrev pub linkSays : Bytes → read.Record → Reading Link
 linkSays s (read-is.Read l p) = accepted (linkOf l) (drop p s)

@@ -13,14 +13,12 @@ ghost use Rattle.sheet.specs.Bytes.{number};
 ghost use Rattle.trees.specs.Order.{part};
 ghost use Rattle.trees.specs.Growing.{EndArrays};
 ghost use Rattle.sheet.specs.Reading.{firstFailing, records};
-ghost use Rattle.sheet.specs.Sheet.{base, recordLength, linkIn, shapeChecks, valueChecks, linkRecord, nextLink};
+ghost use Rattle.sheet.specs.Sheet.{current, recordLength, linkIn, shapeChecks, valueChecks, linkRecord, nextLink};
 ghost use Rattle.records.specs.Answers.{stepNumber, stepSays, EndsAt, Inside};
 ghost use Rattle.links.specs.Answers.{fieldsSay, fieldsOf, linkOf, linkSays, LinkInside, linksOf};
 
 // The map byte of a link with all its fields.
 const ALL_FIELDS: u8 = 7;
-
-const MOST_WEIGHT: u32 = 1000000;
 
 pub struct Link {
     pub first: usize,
@@ -42,7 +40,7 @@ pub enum Record {
 
 // How many bytes the fields behind the map byte take.
 fn field_bytes(m: u8) -> Fields
-    ensures { λ r. ⌜ fieldsSay r ≡ fieldsOf m ⌝ }
+    ensures { λ r. ⌜ fieldsSay r ≡ fieldsOf current m ⌝ }
 {
     match m {
         0 => Fields::Length(0),
@@ -57,8 +55,8 @@ fn field_bytes(m: u8) -> Fields
 // Where the record ends. `start` says that it is link 0's.
 fn record_end(s: &[u8], at: usize, start: bool) -> Step
     requires { ⌜ at ≤ length (now s) ⌝ }
-    ensures { λ r. ⌜ stepNumber r ≡ firstFailing (shapeChecks base start (drop at (now (s .entry)))) ⌝ }
-    ensures { λ r. ⌜ EndsAt (at + recordLength base (drop at (now (s .entry)))) (now (s .entry)) r ⌝ }
+    ensures { λ r. ⌜ stepNumber r ≡ firstFailing (shapeChecks current start (drop at (now (s .entry)))) ⌝ }
+    ensures { λ r. ⌜ EndsAt (at + recordLength current (drop at (now (s .entry)))) (now (s .entry)) r ⌝ }
 {
     if at == s.len() {
         return Step::Refused(refusals::NO_MAP_BYTE);
@@ -96,8 +94,8 @@ fn four_or(s: &[u8], at: usize, bit: usize, before: u32) -> u32
 
 // The link of the record.
 fn link_fields(s: &[u8], at: usize, before: Link) -> Link
-    requires { ⌜ at + recordLength base (drop at (now s)) ≤ length (now s) ⌝ }
-    ensures { λ r. ⌜ linkOf r ≡ linkIn base (linkOf before) (drop at (now (s .entry))) ⌝ }
+    requires { ⌜ at + recordLength current (drop at (now s)) ≤ length (now s) ⌝ }
+    ensures { λ r. ⌜ linkOf r ≡ linkIn current (linkOf before) (drop at (now (s .entry))) ⌝ }
 {
     let m = s[at] as usize;
     let first_at = at + 1;
@@ -110,15 +108,12 @@ fn link_fields(s: &[u8], at: usize, before: Link) -> Link
     }
 }
 
-// The refusal number of a link's ends and weight, 0 where neither is refused.
+// The refusal number of a link's ends, 0 where they are not refused. Every weight of four bytes is allowed.
 fn link_refusal(nodes: usize, l: Link) -> u32
-    ensures { λ r. ⌜ r ≡ firstFailing (valueChecks base nodes (linkOf l)) ⌝ }
+    ensures { λ r. ⌜ r ≡ firstFailing (valueChecks current nodes (linkOf l)) ⌝ }
 {
     if nodes <= l.first || nodes <= l.second || l.first == l.second {
         return refusals::LINK_ENDS;
-    }
-    if MOST_WEIGHT < l.weight {
-        return refusals::LINK_WEIGHT;
     }
     0
 }
@@ -126,7 +121,7 @@ fn link_refusal(nodes: usize, l: Link) -> u32
 // The link of the record at a position, where `before` is the link before it.
 fn read_link(s: &[u8], at: usize, nodes: usize, start: bool, before: Link) -> Record
     requires { ⌜ at ≤ length (now s) ⌝ }
-    ensures { λ r. ⌜ linkSays (now (s .entry)) r ≡ linkRecord base nodes start (linkOf before) (drop at (now (s .entry))) ⌝ }
+    ensures { λ r. ⌜ linkSays (now (s .entry)) r ≡ linkRecord current nodes start (linkOf before) (drop at (now (s .entry))) ⌝ }
     ensures { λ r. ⌜ LinkInside (now (s .entry)) r ⌝ }
 {
     match record_end(s, at, start) {
@@ -154,7 +149,7 @@ pub fn read_links(
 ) -> Step
     requires { ⌜ (from ≤ length (now s)) × (nodes ≤ 256) × (count ≤ 2048) × EndArrays (now ends) × (length (now weights) ≡ 2048) ⌝ }
     ensures { λ r. ⌜ stepSays (linksOf count (part (now (ends .exit)) 0) (part (now (ends .exit)) 1) (now (weights .exit))) (now (s .entry)) r
-        ≡ records (nextLink base nodes) count [] (drop from (now (s .entry))) ⌝ }
+        ≡ records (nextLink current nodes) count [] (drop from (now (s .entry))) ⌝ }
     ensures { λ r. ⌜ Inside (now (s .entry)) r × EndArrays (now (ends .exit)) ⌝ }
 {
     let mut at = from;

@@ -6,40 +6,43 @@ use mathlib.Core.List.{[]}
 use native.Mathlib.Omega.{arith}
 use lib.ListN.{length}
 use borrow.Author.Tests.{lt-ltb, le-ltb}
+use Rattle.cuts.specs.Network.{Network}
+use Rattle.cuts.specs.Demands.{Owed}
 use Rattle.sheet.specs.Bytes.{Bytes}
-use Rattle.sheet.specs.Reading.{firstFailing, refused, numberOf}
-use Rattle.sheet.specs.Sheet.{base, decode}
-use Rattle.sheet.specs.Areas.{sideAfter, reportAfter}
+use Rattle.sheet.specs.Reading.{firstFailing, accepted, refused, numberOf}
+use Rattle.sheet.specs.Sheet.{Format, decode}
+use Rattle.sheet.specs.Areas.{reportLength, sideAfter, reportAfter, answerRead}
 use Rattle.sheet.proofs.Acceptance.{decode-zero}
-use Rattle.sheet.proofs.AreaLaws.{sheet-owed}
 use Rattle.monitor.specs.Entry.{areaChecks, reading, sideLeft, reportLeft, Reported}
 
-module _ (sheet side report : Bytes) where
-  refused-reported : (n : ℕ) → 0 < n → reading sheet side report ≡ refused n → Reported sheet side report side report n
+module _ (f : Format) (sheet side report : Bytes) where
+  refused-reported : (n : ℕ) → 0 < n → reading f sheet side report ≡ refused n → Reported f sheet side report side report n
   refused-reported n z e = record { number = rw e; side-is = rw e; report-is = rw e; owed = λ q. absurd (omega arith) }
 
-  pub side-refused : length side < 32 → Reported sheet side report side report 1
+  pub side-refused : length side < 32 → Reported f sheet side report side report 1
   unfolding reading areaChecks firstFailing
   side-refused l = refused-reported 1 (omega arith) (rw (lt-ltb (length side) 32 l))
 
   module _ (enough : 32 ≤ length side) where
-    pub report-refused : length report < 16 → Reported sheet side report side report 2
+    pub report-refused : length report < reportLength f → Reported f sheet side report side report 2
     unfolding reading areaChecks firstFailing
-    report-refused l = refused-reported 2 (omega arith) (rw (le-ltb (length side) 32 enough, lt-ltb (length report) 16 l))
+    report-refused l = refused-reported 2 (omega arith) (rw (le-ltb (length side) 32 enough, lt-ltb (length report) (reportLength f) l))
 
-    module _ (room : 16 ≤ length report) where
-      pub reading-is : reading sheet side report ≡ decode base sheet
+    module _ (room : reportLength f ≤ length report) where
+      pub reading-is : reading f sheet side report ≡ decode f sheet
       unfolding reading areaChecks firstFailing
-      reading-is = rw (le-ltb (length side) 32 enough, le-ltb (length report) 16 room)
+      reading-is = rw (le-ltb (length side) 32 enough, le-ltb (length report) (reportLength f) room)
 
-      pub sheet-decides : (side′ report′ : Bytes) (n : ℕ) → n ≡ numberOf (decode base sheet) → side′ ≡ sideLeft side (decode base sheet) → report′ ≡ reportLeft report (decode base sheet)
-          → Reported sheet side report side′ report′ n
-      sheet-decides side′ report′ n e s r = record {
+      -- where what is owed of the answer is owed of the bytes written
+      pub sheet-decides : ((net : Network) → decode f sheet ≡ accepted net [] → Owed net (answerRead f (net .nodes) (sideAfter net side) (reportAfter f net report)))
+          → (side′ report′ : Bytes) (n : ℕ) → n ≡ numberOf (decode f sheet) → side′ ≡ sideLeft side (decode f sheet) → report′ ≡ reportLeft f report (decode f sheet)
+          → Reported f sheet side report side′ report′ n
+      sheet-decides owed side′ report′ n e s r = record {
         number = rw reading-is e;
         side-is = rw reading-is s;
         report-is = rw reading-is r;
-        owed = λ z. let read = decode-zero base sheet (sym e ∙ z) in
+        owed = λ z. let read = decode-zero f sheet (sym e ∙ z) in
             let left : side′ ≡ sideAfter (read .0) side = s ∙ ap (sideLeft side) (read .1) in
-            let right : report′ ≡ reportAfter (read .0) report = r ∙ ap (reportLeft report) (read .1) in
-            (read .0, read .1, rw (left, right) (sheet-owed sheet (read .0) [] (read .1) side report));
+            let right : report′ ≡ reportAfter f (read .0) report = r ∙ ap (reportLeft f report) (read .1) in
+            (read .0, read .1, rw (left, right) (owed (read .0) (read .1)));
       }

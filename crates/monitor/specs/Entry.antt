@@ -1,9 +1,10 @@
--- What the entry returns and leaves in the two areas, for every sheet and every pair of areas. Assumes nothing.
---   areaChecks side report            refusals 1 and 2, of the areas' lengths
---   reading sheet side report         the network of the sheet, or the first refusal: 1, 2, or the sheet's
---   sideLeft old r, reportLeft old r  an area that held `old`, where r was the reading: the answer is written if a network was read
---   Reported ..                       all that the entry promises, where the areas held `side` and `report`, hold side′ and report′
---                                     afterwards, and n is returned
+-- What the entry returns and leaves in the two areas, for every sheet and every pair of areas, by the format. Assumes nothing.
+--   areaChecks f side report      refusals 1 and 2, of the areas' lengths
+--   reading f sheet side report   the network of the sheet, or the first refusal: 1, 2, or the sheet's
+--   sideLeft old r                a side area that held `old`, where r was the reading: the answer is written if a network was read
+--   reportLeft f old r            the same of a report area
+--   Reported f ..                 all that the entry promises, where the areas held `side` and `report`, hold side′ and report′
+--                                 afterwards, and n is returned
 use Prim.Native.Nat.{ℕ}
 use mathlib.Core.Path.{_≡_}
 use mathlib.Core.List.{List, [], _∷_}
@@ -13,29 +14,29 @@ use Rattle.cuts.specs.Network.{Network}
 use Rattle.cuts.specs.Demands.{Owed}
 use Rattle.sheet.specs.Bytes.{Bytes}
 use Rattle.sheet.specs.Reading.{Check, check, firstFailing, Reading, accepted, refused, unless, numberOf}
-use Rattle.sheet.specs.Sheet.{base, decode}
-use Rattle.sheet.specs.Areas.{sideAfter, reportAfter, answerRead}
+use Rattle.sheet.specs.Sheet.{Format, decode}
+use Rattle.sheet.specs.Areas.{reportLength, sideAfter, reportAfter, answerRead}
 
-unfoldable pub areaChecks : Bytes → Bytes → List Check
-areaChecks side report = check 1 (ltb (length side) 32) ∷ check 2 (ltb (length report) 16) ∷ []
+unfoldable pub areaChecks : Format → Bytes → Bytes → List Check
+areaChecks f side report = check 1 (ltb (length side) 32) ∷ check 2 (ltb (length report) (reportLength f)) ∷ []
 
-unfoldable pub reading : Bytes → Bytes → Bytes → Reading Network
+unfoldable pub reading : Format → Bytes → Bytes → Bytes → Reading Network
 unfolding firstFailing areaChecks decode
-reading sheet side report = unless (firstFailing (areaChecks side report)) (decode base sheet)
+reading f sheet side report = unless (firstFailing (areaChecks f side report)) (decode f sheet)
 
 abbrev pub sideLeft : Bytes → Reading Network → Bytes
 sideLeft old (accepted net rest) = sideAfter net old
 sideLeft old (refused n) = old
 
-abbrev pub reportLeft : Bytes → Reading Network → Bytes
-reportLeft old (accepted net rest) = reportAfter net old
-reportLeft old (refused n) = old
+abbrev pub reportLeft : Format → Bytes → Reading Network → Bytes
+reportLeft f old (accepted net rest) = reportAfter f net old
+reportLeft f old (refused n) = old
 
-pub record Reported (sheet side report side′ report′ : Bytes) (n : ℕ) : Type 0 where
+pub record Reported (f : Format) (sheet side report side′ report′ : Bytes) (n : ℕ) : Type 0 where
   -- demand 1: each refusal in just the situation and order listed for it
-  pub number : n ≡ numberOf (reading sheet side report)
-  -- both areas hold what the definitions give, and are as they were after a refusal and behind their 32 and 16 bytes
-  pub side-is : side′ ≡ sideLeft side (reading sheet side report)
-  pub report-is : report′ ≡ reportLeft report (reading sheet side report)
+  pub number : n ≡ numberOf (reading f sheet side report)
+  -- both areas hold what the definitions give, and are as they were after a refusal and behind the bytes written
+  pub side-is : side′ ≡ sideLeft side (reading f sheet side report)
+  pub report-is : report′ ≡ reportLeft f report (reading f sheet side report)
   -- demands 2 and 3, of the network that the sheet gives and of what is read back from the bytes of the areas
-  pub owed : n ≡ 0 → (net : Network) × (decode base sheet ≡ accepted net []) × Owed net (answerRead (net .nodes) side′ report′)
+  pub owed : n ≡ 0 → (net : Network) × (decode f sheet ≡ accepted net []) × Owed net (answerRead f (net .nodes) side′ report′)

@@ -10,7 +10,8 @@ ghost use Prim.Native.Nat.{_≤_};
 ghost use lib.ListN.{length};
 ghost use Rattle.trees.specs.Growing.{EndArrays};
 ghost use Rattle.sheet.specs.Reading.{numberOf};
-ghost use Rattle.sheet.specs.Sheet.{base, decode};
+ghost use Rattle.sheet.specs.Sheet.{current, decode};
+ghost use Rattle.sheet.specs.Areas.{reportLength};
 ghost use Rattle.monitor.specs.Entry.{sideLeft, reportLeft, Reported};
 
 // Reads the sheet and answers it, in work arrays that are lent.
@@ -21,9 +22,9 @@ fn report_in(
     ends: &mut [[u8; 2048]; 2],
     weights: &mut [u32],
 ) -> u32
-    requires { ⌜ (32 ≤ length (now side)) × (16 ≤ length (now report)) × EndArrays (now ends) × (length (now weights) ≡ 2048) ⌝ }
-    ensures { λ r. ⌜ (r ≡ numberOf (decode base (now (sheet .entry)))) × (now (side .exit) ≡ sideLeft (now (side .entry)) (decode base (now (sheet .entry))))
-        × (now (report .exit) ≡ reportLeft (now (report .entry)) (decode base (now (sheet .entry)))) ⌝ }
+    requires { ⌜ (32 ≤ length (now side)) × (reportLength current ≤ length (now report)) × EndArrays (now ends) × (length (now weights) ≡ 2048) ⌝ }
+    ensures { λ r. ⌜ (r ≡ numberOf (decode current (now (sheet .entry)))) × (now (side .exit) ≡ sideLeft (now (side .entry)) (decode current (now (sheet .entry))))
+        × (now (report .exit) ≡ reportLeft current (now (report .entry)) (decode current (now (sheet .entry)))) ⌝ }
 {
     match read_sheet(sheet, ends, weights) {
         Outcome::Read(c, at) => {
@@ -38,7 +39,7 @@ fn report_in(
 // number of the first refusal and leaves both areas as they were.
 #[no_mangle]
 pub extern "C" fn wcut_report(sheet: &[u8], side: &mut [u8], report: &mut [u8]) -> u32
-    ensures { λ r. ⌜ Reported (now (sheet .entry)) (now (side .entry)) (now (report .entry)) (now (side .exit)) (now (report .exit)) r ⌝ }
+    ensures { λ r. ⌜ Reported current (now (sheet .entry)) (now (side .entry)) (now (report .entry)) (now (side .exit)) (now (report .exit)) r ⌝ }
 {
     if side.len() < SIDE_LENGTH {
         return refusals::SHORT_SIDE;

@@ -13,7 +13,7 @@ ghost use mathlib.Core.Path.{_≡_};
 ghost use Prim.Native.Nat.{_≤_, _<_};
 ghost use lib.ListN.{length, drop};
 ghost use Rattle.trees.specs.Growing.{EndArrays};
-ghost use Rattle.sheet.specs.Sheet.{base, decodeBody, decode};
+ghost use Rattle.sheet.specs.Sheet.{current, decodeBody, decode};
 ghost use Rattle.records.specs.Answers.{countsOf};
 ghost use Rattle.reader.specs.Answers.{sheetSays, TreesLast};
 
@@ -27,7 +27,7 @@ pub enum Outcome {
 fn read_body(s: &[u8], c: Counts, ends: &mut [[u8; 2048]; 2], weights: &mut [u32]) -> Outcome
     requires { ⌜ (5 ≤ length (now s)) × (0 < c .nodes) × (c .nodes ≤ 256) × (c .links ≤ 2048) ⌝ }
     requires { ⌜ EndArrays (now ends) × (length (now weights) ≡ 2048) ⌝ }
-    ensures { λ r. ⌜ sheetSays (now (s .entry)) (now (ends .exit)) (now (weights .exit)) r ≡ decodeBody base (countsOf c) (drop 5 (now (s .entry))) ⌝ }
+    ensures { λ r. ⌜ sheetSays (now (s .entry)) (now (ends .exit)) (now (weights .exit)) r ≡ decodeBody current (countsOf c) (drop 5 (now (s .entry))) ⌝ }
     ensures { λ r. ⌜ TreesLast (now (s .entry)) r × EndArrays (now (ends .exit)) ⌝ }
 {
     let nodes = c.nodes;
@@ -53,7 +53,7 @@ fn read_body(s: &[u8], c: Counts, ends: &mut [[u8; 2048]; 2], weights: &mut [u32
 // Cost: one pass over the bytes and one over the bits of each link map, and for each tree a few steps for each of its nodes.
 pub fn read_sheet(s: &[u8], ends: &mut [[u8; 2048]; 2], weights: &mut [u32]) -> Outcome
     requires { ⌜ EndArrays (now ends) × (length (now weights) ≡ 2048) ⌝ }
-    ensures { λ r. ⌜ sheetSays (now (s .entry)) (now (ends .exit)) (now (weights .exit)) r ≡ decode base (now (s .entry)) ⌝ }
+    ensures { λ r. ⌜ sheetSays (now (s .entry)) (now (ends .exit)) (now (weights .exit)) r ≡ decode current (now (s .entry)) ⌝ }
     ensures { λ r. ⌜ TreesLast (now (s .entry)) r × EndArrays (now (ends .exit)) ⌝ }
 {
     match read_header(s) {

@@ -20,6 +20,14 @@ pub fn four(s: &[u8], at: usize) -> u32
     (two(s, at) + 65536 * two(s, at + 2)) as u32
 }
 
+// The number in the eight bytes at a position.
+pub fn eight(s: &[u8], at: usize) -> u64
+    requires { ⌜ at + 8 ≤ length (now s) ⌝ }
+    ensures { λ r. ⌜ r ≡ number 8 (drop at (now (s .entry))) ⌝ }
+{
+    four(s, at) as u64 + 4294967296 * (four(s, at + 4) as u64)
+}
+
 fn wide(b: u8) -> usize
     ensures { λ r. ⌜ (r ≡ b) × (r < 256) ⌝ }
 {

@@ -1,8 +1,8 @@
 // Reads the header of a serialised network and the link maps of trees, and has what the readers share. A record is read at a position
 // of the sheet; the answer is the value and the position behind it, or the number of the first refusal.
-pub mod refusals; // document 01's refusal numbers
+pub mod refusals; // the refusal numbers
 pub mod limits; // document 01's limits
-pub mod bytes; // numbers of two and four bytes
+pub mod bytes; // numbers of two, four and eight bytes
 pub mod header; // the three counts
 pub mod maps; // link maps
 

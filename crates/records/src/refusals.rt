@@ -1,9 +1,9 @@
-// Document 01's refusal numbers.
+// The refusal numbers of document 01, as document 02 changes them. Number 11 is not among them: every weight is allowed.
 
 // The side area has fewer than 32 bytes.
 pub const SHORT_SIDE: u32 = 1;
 
-// The report area has fewer than 16 bytes.
+// The report area has fewer than 24 bytes.
 pub const SHORT_REPORT: u32 = 2;
 
 // The sheet has fewer than 5 bytes.
@@ -29,9 +29,6 @@ pub const CUT_OFF_FIELD: u32 = 9;
 
 // An end is not below the node count, or both ends are equal.
 pub const LINK_ENDS: u32 = 10;
-
-// A weight exceeds 1,000,000.
-pub const LINK_WEIGHT: u32 = 11;
 
 // The sheet ends inside or before a tree record.
 pub const CUT_OFF_TREE: u32 = 12;

@@ -1,38 +1,42 @@
--- What is written to the two areas is read back: the answer of every accepted sheet fits its fields and its side the 32 bytes, so
--- that what stands in the areas afterwards is that answer, and all that is owed of the answer is owed of those bytes.
+-- What is written to the two areas is read back: where the report has room for the weight of every side, the answer of an accepted
+-- sheet fits its fields and its side the 32 bytes, so that what stands in the areas afterwards is that answer, and all that is owed
+-- of the answer is owed of those bytes.
 -- Assumes nothing.
-use Prim.Native.Nat.{ℕ, _≤_, _<_}
+use Prim.Native.Nat.{ℕ, _+_, _*_, _^_, _≤_, _<_}
 use mathlib.Core.List.{[], _∷_}
 use mathlib.Core.Path.{_≡_, refl, sym, ap, ap₂, _∙_}
 use mathlib.Core.Bool.{Bool, true, false, cond}
+use native.Mathlib.Nat.{mul-le-mul-right}
 use native.Mathlib.Omega.{arith}
-use lib.ListN.{length, getD, drop}
+use lib.ListN.{length, getD, drop, length-append}
 use lib.Seq.{ext-getD, drop-drop}
 use lib.Dec.{eqb}
 use borrow.Author.Tests.{ne-eqb}
 use Rattle.cuts.specs.Sums.{table}
 use Rattle.cuts.specs.Network.{Network, flag, treeAt}
-use Rattle.cuts.specs.Cut.{Side}
+use Rattle.cuts.specs.Cut.{Side, cutWeight}
 use Rattle.cuts.specs.Candidate.{Handle, Fits, one, two}
 use Rattle.cuts.specs.Answer.{Answer, judged, answer}
 use Rattle.cuts.specs.Demands.{Owed}
 use Rattle.cuts.proofs.SumLaws.{table-length, table-at}
 use Rattle.cuts.proofs.CutLaws.{cutWeight-most}
+use Rattle.cuts.proofs.LimitLaws.{side-most}
 use Rattle.cuts.proofs.Demands.{answer-demand2, answer-demand3, answer-owed}
-use Rattle.sheet.specs.Bytes.{Bytes, number, fields, mapBit}
+use Rattle.sheet.specs.Bytes.{Bytes, ByteSized, number, fields, fieldBytes, mapBit}
 use Rattle.sheet.specs.Reading.{accepted}
-use Rattle.sheet.specs.Sheet.{Accepted, base, decode}
-use Rattle.sheet.specs.Areas.{sideBytes, reportWidths, reportFields, reportBytes, noSecond, firstLink, secondLink, written, sideAfter, reportAfter, sideRead, handleOf, answerOf, answerRead}
+use Rattle.sheet.specs.Sheet.{Format, Accepted, base, current, decode}
+use Rattle.sheet.specs.Areas.{sideBytes, reportWidths, reportLength, reportFields, reportBytes, noSecond, firstLink, secondLink, written, sideAfter, reportAfter, sideRead, handleOf, answerOf, answerRead}
 use Rattle.sheet.proofs.Acceptance.{decode-accepted}
-use Rattle.sheet.proofs.ByteLaws.{number-one, Fitting, fields-fieldBytes, mapBit-table}
+use Rattle.sheet.proofs.ByteLaws.{bytesOf-length, number-one, Fitting, fields-fieldBytes, mapBit-table}
+use Rattle.sheet.proofs.Sizes.{decode-light}
 
 pub sideBytes-length : (s : Side) → length (sideBytes s) ≡ 32
 unfolding sideBytes
 sideBytes-length s = refl
 
-pub reportBytes-length : (a : Answer) → length (reportBytes a) ≡ 16
-unfolding reportBytes
-reportBytes-length a = refl
+pub reportBytes-length : (f : Format) (a : Answer) → length (reportBytes f a) ≡ reportLength f
+unfolding reportBytes fieldBytes
+reportBytes-length f a = simp (length-append, bytesOf-length) (omega arith)
 
 -- ---- the side
 
@@ -59,11 +63,11 @@ handleOf-links : (h : Handle) → LinksBelow noSecond h → handleOf (firstLink 
 handleOf-links (one e) b = refl
 handleOf-links (two e f) b = rw (ne-eqb f noSecond (λ q. let l = b .1 in omega arith))
 
-pub answerRead-written : (nodes : ℕ) (a : Answer) (side report : Bytes) → length (a .best .side) ≡ nodes → nodes ≤ 256 → LinksBelow noSecond (a .best .handle)
-    → Fitting reportWidths (reportFields a) → answerRead nodes (written (sideBytes (a .best .side)) side) (written (reportBytes a) report) ≡ a
+pub answerRead-written : (f : Format) (nodes : ℕ) (a : Answer) (side report : Bytes) → length (a .best .side) ≡ nodes → nodes ≤ 256 → LinksBelow noSecond (a .best .handle)
+    → Fitting (reportWidths f) (reportFields a) → answerRead f nodes (written (sideBytes (a .best .side)) side) (written (reportBytes f a) report) ≡ a
 unfolding answerRead reportBytes
-answerRead-written nodes a side report e m l f =
-    ap₂ answerOf (fields-fieldBytes reportWidths (reportFields a) (drop 16 report) f) (sideRead-written nodes (a .best .side) side e m)
+answerRead-written f nodes a side report e m l fit =
+    ap₂ answerOf (fields-fieldBytes (reportWidths f) (reportFields a) (drop (length (reportBytes f a)) report) fit) (sideRead-written nodes (a .best .side) side e m)
     ∙ ap (λ (h : Handle). answerWith h) (handleOf-links (a .best .handle) l)
   where
     answerWith : Handle → Answer
@@ -74,15 +78,15 @@ answerRead-written nodes a side report e m l f =
       verdict = a .verdict;
     }
 
-pub fields-reportWidths : (bs : Bytes) → fields reportWidths bs
-    ≡ getD bs 0 0 ∷ getD bs 1 0 ∷ number 2 (drop 2 bs) ∷ number 2 (drop 4 bs) ∷ number 2 (drop 6 bs) ∷ number 4 (drop 8 bs) ∷ number 4 (drop 12 bs) ∷ []
+pub fields-reportWidths : (f : Format) (bs : Bytes) → fields (reportWidths f) bs
+    ≡ getD bs 0 0 ∷ getD bs 1 0 ∷ number 2 (drop 2 bs) ∷ number 2 (drop 4 bs) ∷ number 2 (drop 6 bs) ∷ number (f .sumWidth) (drop 8 bs) ∷ number (f .sumWidth) (drop (8 + f .sumWidth) bs) ∷ []
 unfolding fields
-fields-reportWidths bs =
-    rw (drop-drop 1 1 bs, drop-drop 2 2 bs, drop-drop 2 4 bs, drop-drop 2 6 bs, drop-drop 4 8 bs, number-one 0 bs, number-one 1 bs)
+fields-reportWidths f bs =
+    rw (drop-drop 1 1 bs, drop-drop 2 2 bs, drop-drop 2 4 bs, drop-drop 2 6 bs, drop-drop (f .sumWidth) 8 bs, number-one 0 bs, number-one 1 bs)
 
 -- ---- the answer of an accepted sheet
 
-module _ (net : Network) (v : Accepted base net) where
+module _ {f : Format} (net : Network) (v : Accepted f net) where
   links-below : (h : Handle) → Fits net (treeAt net (answer net .best .tree)) h → LinksBelow noSecond h
   links-below (one e) m = let b = m .is-link in let c = v .links-most in omega arith
   links-below (two e f) m = let b = m .1 .is-link in let d = m .2 .is-link in let c = v .links-most in (omega arith, omega arith)
@@ -99,35 +103,68 @@ module _ (net : Network) (v : Accepted base net) where
       step true = omega arith
       step false = omega arith
 
-  answer-fitting : Fitting reportWidths (reportFields (answer net))
-  answer-fitting =
-      let d2 = answer-demand2 net (v .sound) in
-      let d3 = answer-demand3 net (v .sound) in
-      let n = v .nodes-most in
-      let m = v .links-most in
-      let t = v .trees-most in
-      let tree = d2 .tree-listed in
-      let count = d2 .count-is in
-      let full = d3 .proper .not-full in
-      let links = links-small (answer net .best .handle) (links-below (answer net .best .handle) (d2 .links-fit)) in
-      let weight = d3 .own-weight in
-      let most = cutWeight-most net 1_000_000 (v .weights-most) (answer net .best .side) in
-      let bound = d3 .floor-bounds (answer net .best .side) (d3 .proper) in
-      let verdict = verdict-most in
-      (omega arith, (omega arith, (omega arith, (links .0, (links .1, (omega arith, (omega arith, tt)))))))
+  -- no cut weighs more than 2,048 links of the largest weight
+  sides-most : (s : Side) → cutWeight net s ≤ 2048 * f .weightLimit
+  sides-most s =
+      let a = cutWeight-most net (f .weightLimit) (v .weights-most) s in
+      let b = mul-le-mul-right (f .weightLimit) (v .links-most) in
+      omega arith
 
-  -- what stands in the areas afterwards is the answer
-  pub answer-back : (side report : Bytes) → answerRead (net .nodes) (sideAfter net side) (reportAfter net report) ≡ answer net
-  answer-back side report =
-      let d2 = answer-demand2 net (v .sound) in
-      answerRead-written (net .nodes) (answer net) side report (answer-demand3 net (v .sound) .proper .sized) (v .nodes-most)
-      (links-below (answer net .best .handle) (d2 .links-fit)) answer-fitting
+  -- where the report has bytes enough for the weight of every side
+  module _ (fits : (s : Side) → cutWeight net s < 256 ^ f .sumWidth) where
+    answer-fitting : Fitting (reportWidths f) (reportFields (answer net))
+    answer-fitting =
+        let d2 = answer-demand2 net (v .sound) in
+        let d3 = answer-demand3 net (v .sound) in
+        let n = v .nodes-most in
+        let m = v .links-most in
+        let t = v .trees-most in
+        let tree = d2 .tree-listed in
+        let count = d2 .count-is in
+        let full = d3 .proper .not-full in
+        let links = links-small (answer net .best .handle) (links-below (answer net .best .handle) (d2 .links-fit)) in
+        let weight = d3 .own-weight in
+        let most = fits (answer net .best .side) in
+        let bound = d3 .floor-bounds (answer net .best .side) (d3 .proper) in
+        let verdict = verdict-most in
+        (omega arith, (omega arith, (omega arith, (links .0, (links .1, (omega arith, (omega arith, tt)))))))
 
-  -- and what is owed of the answer is owed of what stands there
-  pub areas-owed : (side report : Bytes) → Owed net (answerRead (net .nodes) (sideAfter net side) (reportAfter net report))
-  areas-owed side report = rw (answer-back side report) (answer-owed net (v .sound))
+    -- what stands in the areas afterwards is the answer
+    pub answer-back : (side report : Bytes) → answerRead f (net .nodes) (sideAfter net side) (reportAfter f net report) ≡ answer net
+    answer-back side report =
+        let d2 = answer-demand2 net (v .sound) in
+        answerRead-written f (net .nodes) (answer net) side report (answer-demand3 net (v .sound) .proper .sized) (v .nodes-most)
+        (links-below (answer net .best .handle) (d2 .links-fit)) answer-fitting
 
--- from the bytes of the sheet to the bytes of the areas
-pub sheet-owed : (sheet : Bytes) (net : Network) (rest : Bytes) → decode base sheet ≡ accepted net rest → (side report : Bytes)
-    → Owed net (answerRead (net .nodes) (sideAfter net side) (reportAfter net report))
-sheet-owed sheet net rest e = areas-owed net (decode-accepted base sheet net rest e)
+    -- and what is owed of the answer is owed of what stands there
+    pub areas-owed : (side report : Bytes) → Owed net (answerRead f (net .nodes) (sideAfter net side) (reportAfter f net report))
+    areas-owed side report = rw (answer-back side report) (answer-owed net (v .sound))
+
+-- ---- from the bytes of the sheet to the bytes of the areas
+
+-- weights of four bytes, and room for those of sides
+module _ (f : Format) (four : getD (f .widths) 2 0 ≡ 4) (room : 2_048 * 4_294_967_295 < 256 ^ f .sumWidth) (sheet : Bytes) (bytes : ByteSized sheet)
+    (net : Network) (rest : Bytes) (e : decode f sheet ≡ accepted net rest) (side report : Bytes) where
+  weights-fit : (s : Side) → cutWeight net s < 256 ^ f .sumWidth
+  weights-fit s = let m = side-most net (decode-light f four sheet bytes net rest e .0) s in omega arith
+
+  sheet-back-in : answerRead f (net .nodes) (sideAfter net side) (reportAfter f net report) ≡ answer net
+  sheet-back-in = answer-back net (decode-accepted f sheet net rest e) weights-fit side report
+
+  sheet-owed-in : Owed net (answerRead f (net .nodes) (sideAfter net side) (reportAfter f net report))
+  sheet-owed-in = areas-owed net (decode-accepted f sheet net rest e) weights-fit side report
+
+-- the format in force has that room
+module _ (sheet : Bytes) (bytes : ByteSized sheet) (net : Network) (rest : Bytes) (e : decode current sheet ≡ accepted net rest) (side report : Bytes) where
+  pub sheet-back : answerRead current (net .nodes) (sideAfter net side) (reportAfter current net report) ≡ answer net
+  sheet-back = sheet-back-in current refl (omega arith) sheet bytes net rest e side report
+
+  pub sheet-owed : Owed net (answerRead current (net .nodes) (sideAfter net side) (reportAfter current net report))
+  sheet-owed = sheet-owed-in current refl (omega arith) sheet bytes net rest e side report
+
+-- in document 01's format four bytes are enough, by the largest weight
+module _ (sheet : Bytes) (net : Network) (rest side report : Bytes) where
+  pub sold-owed : decode base sheet ≡ accepted net rest → Owed net (answerRead base (net .nodes) (sideAfter net side) (reportAfter base net report))
+  sold-owed e =
+      let v = decode-accepted base sheet net rest e in
+      areas-owed net v (λ s. let m = sides-most net v s in omega arith) side report

@@ -43,8 +43,8 @@ number-one at bs = rw (front-drop at bs) (omega arith)
 pub number-two : (at : ℕ) (bs : Bytes) → number 2 (drop at bs) ≡ getD bs at 0 + 256 * getD bs (at + 1) 0
 number-two at bs = rw (number-add 1 1 (drop at bs), number-one at bs, drop-drop 1 at bs, number-one (at + 1) bs)
 
-pub number-four : (at : ℕ) (bs : Bytes) → number 4 (drop at bs) ≡ number 2 (drop at bs) + 65536 * number 2 (drop (at + 2) bs)
-number-four at bs = rw (number-add 2 2 (drop at bs), drop-drop 2 at bs)
+pub number-halves : (w x at : ℕ) (bs : Bytes) → number (w + x) (drop at bs) ≡ number w (drop at bs) + 256 ^ w * number x (drop (at + w) bs)
+number-halves w x at bs = rw (number-add w x (drop at bs), drop-drop w at bs)
 
 -- each number fits its width
 abbrev pub Fitting : List ℕ → List ℕ → Type 0

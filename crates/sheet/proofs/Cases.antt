@@ -2,13 +2,15 @@
 --   Case             a sheet, the numbers of its answer line, with 65535 for `-`, and the nodes of its side line
 --   starred          the starred networks A to H, H with each of its shares
 --   others           network I, inherited fields, maps of a full byte and of two, and the largest numbers
---   reported bs      the sheet bs and what both areas hold after it, read back from their bytes
+--   heavier          sheets with weights past document 01's limit
+--   reported f bs    the sheet bs and what both areas of the format f hold after it, read back from their bytes
 --   Layout           a sheet and the bytes of both areas
---   layouts          the bytes of both areas for A, E and F, in areas of 33 and 18 bytes that were full of nines
---   laidOut bs       the sheet bs and the bytes of such areas after it
---   Numbered         a sheet and its return number
+--   layouts          the bytes of both areas for A, E and F in document 01's format, in areas of 33 and 18 bytes that were full of nines
+--   wideLayouts      those for E, F and two sheets with heavier links in the format in force, the report area of 26 bytes
+--   laidOut f n bs   the sheet bs and the bytes of areas of 33 and n bytes, full of nines, after it in the format f
+--   Numbered         a sheet and its return numbers: of units already sold, and in force
 --   numbers          0 for an accepted sheet; sheets with one fault, then sheets with two, of which the first in the list counts
---   numbered bs      the sheet bs and its return number
+--   numbered bs      the sheet bs and its return numbers
 -- Assumes nothing.
 use Prim.Native.Nat.{ℕ}
 use mathlib.Core.Path.{_≡_, refl}
@@ -19,7 +21,7 @@ use Rattle.cuts.specs.Network.{Network, flag}
 use Rattle.cuts.specs.Answer.{Answer, answer}
 use Rattle.sheet.specs.Bytes.{Bytes}
 use Rattle.sheet.specs.Reading.{accepted, refused, numberOf}
-use Rattle.sheet.specs.Sheet.{base, decode, sheetMost}
+use Rattle.sheet.specs.Sheet.{Format, base, current, decode, sheetMost}
 use Rattle.sheet.specs.Areas.{sideBytes, reportBytes, sideAfter, reportAfter, answerRead, firstLink, secondLink}
 
 -- ---- sheets of small numbers: a header, link records with all fields, and a tree record with a map of one byte
@@ -56,6 +58,17 @@ inherited = header 3 3 1 ++ link 1 0 2 ++ 2 ∷ 2 ∷ 0 ∷ 0 ∷ []
 -- m parallel links of weight 1
 abbrev parallel : ℕ → Bytes → Bytes
 parallel m rest = header 2 m 1 ++ link 0 1 1 ++ rest
+
+-- a link of weight 1,000,001 between x and y
+abbrev heavy : ℕ → ℕ → Bytes
+heavy x y = 7 ∷ x ∷ 0 ∷ y ∷ 0 ∷ 65 ∷ 66 ∷ 15 ∷ 0 ∷ []
+
+-- the largest number of four bytes, and two links of that weight
+abbrev largest : Bytes
+largest = 255 ∷ 255 ∷ 255 ∷ 255 ∷ []
+
+abbrev largestPair : ℕ → Bytes
+largestPair trees = header 2 2 trees ++ 7 ∷ 0 ∷ 0 ∷ 1 ∷ 0 ∷ largest ++ 0 ∷ []
 
 -- three of four nodes joined by links 0 to 2
 abbrev split : ℕ → Bytes
@@ -111,6 +124,15 @@ others =
     ∷ gives (header 2 1 1 ++ 7 ∷ 0 ∷ 0 ∷ 1 ∷ 0 ∷ 64 ∷ 66 ∷ 15 ∷ 0 ∷ tree 0 1) (1 ∷ 1000000 ∷ 0 ∷ 0 ∷ 0 ∷ 65535 ∷ 1 ∷ []) (1 ∷ [])
     ∷ []
 
+heavier : List Case
+heavier =
+    -- weight 1,000,001
+    gives (header 2 1 1 ++ heavy 0 1 ++ tree 1 1) (1 ∷ 1000001 ∷ 3 ∷ 0 ∷ 0 ∷ 65535 ∷ 1 ∷ []) (1 ∷ [])
+    -- two links of the largest weight: a tree of the largest share, then two of them, which overload their link
+    ∷ gives (largestPair 1 ++ largest ++ 1 ∷ []) (2 ∷ 8589934590 ∷ 8589934590 ∷ 0 ∷ 0 ∷ 65535 ∷ 1 ∷ []) (1 ∷ [])
+    ∷ gives (largestPair 2 ++ largest ++ 1 ∷ largest ++ 1 ∷ []) (1 ∷ 8589934590 ∷ 0 ∷ 0 ∷ 0 ∷ 65535 ∷ 1 ∷ []) (1 ∷ [])
+    ∷ []
+
 abbrev caseOf : Bytes → Network → Answer → Case
 caseOf bs net a =
     gives bs
@@ -118,18 +140,18 @@ caseOf bs net a =
     ∷ a .count ∷ [])
     (select (net .nodes) (flag (a .best .side)))
 
-reported : Bytes → Case
+reported : Format → Bytes → Case
 unfolding decode answer answerRead sideBytes reportBytes select
-reported bs =
-    elim (decode base bs) [ accepted net rest ↦ caseOf bs net (answerRead (net .nodes) (sideAfter net []) (reportAfter net [])) | refused n ↦ gives bs (n ∷ []) [] ]
+reported f bs =
+    elim (decode f bs) [ accepted net rest ↦ caseOf bs net (answerRead f (net .nodes) (sideAfter net []) (reportAfter f net [])) | refused n ↦ gives bs (n ∷ []) [] ]
 
-starred-reported : map (λ c. reported (c .sheet)) starred ≡ starred
-unfolding starred reported
-starred-reported = refl
+sold-reported : map (λ c. reported base (c .sheet)) (starred ++ others) ≡ starred ++ others
+unfolding starred others reported
+sold-reported = refl
 
-others-reported : map (λ c. reported (c .sheet)) others ≡ others
-unfolding others reported
-others-reported = refl
+current-reported : map (λ c. reported current (c .sheet)) (starred ++ others ++ heavier) ≡ starred ++ others ++ heavier
+unfolding starred others heavier reported
+current-reported = refl
 
 -- ---- the bytes of the areas
 
@@ -148,26 +170,43 @@ layouts =
     ∷ lays (ladder ++ tree 1 7) (14 ∷ replicate 31 0 ++ 9 ∷ []) (1 ∷ 0 ∷ 3 ∷ 0 ∷ 0 ∷ 0 ∷ 255 ∷ 255 ∷ 11 ∷ 0 ∷ 0 ∷ 0 ∷ 3 ∷ 0 ∷ 0 ∷ 0 ∷ 9 ∷ 9 ∷ [])
     ∷ []
 
-laidOut : Bytes → Layout
-unfolding decode answer sideBytes reportBytes
-laidOut bs = elim (decode base bs) [ accepted net rest ↦ lays bs (sideAfter net (replicate 33 9)) (reportAfter net (replicate 18 9)) | refused n ↦ lays bs [] [] ]
+wideLayouts : List Layout
+wideLayouts =
+    lays (thickRing ++ tree 1 3) (2 ∷ replicate 31 0 ++ 9 ∷ [])
+    (2 ∷ 0 ∷ 1 ∷ 0 ∷ 0 ∷ 0 ∷ 1 ∷ 0 ∷ 2 ∷ 0 ∷ 0 ∷ 0 ∷ 0 ∷ 0 ∷ 0 ∷ 0 ∷ 2 ∷ 0 ∷ 0 ∷ 0 ∷ 0 ∷ 0 ∷ 0 ∷ 0 ∷ 9 ∷ 9 ∷ [])
+    ∷ lays (ladder ++ tree 1 7) (14 ∷ replicate 31 0 ++ 9 ∷ [])
+    (1 ∷ 0 ∷ 3 ∷ 0 ∷ 0 ∷ 0 ∷ 255 ∷ 255 ∷ 11 ∷ 0 ∷ 0 ∷ 0 ∷ 0 ∷ 0 ∷ 0 ∷ 0 ∷ 3 ∷ 0 ∷ 0 ∷ 0 ∷ 0 ∷ 0 ∷ 0 ∷ 0 ∷ 9 ∷ 9 ∷ [])
+    ∷ lays (header 2 1 1 ++ heavy 0 1 ++ tree 1 1) (2 ∷ replicate 31 0 ++ 9 ∷ [])
+    (1 ∷ 0 ∷ 1 ∷ 0 ∷ 0 ∷ 0 ∷ 255 ∷ 255 ∷ 65 ∷ 66 ∷ 15 ∷ 0 ∷ 0 ∷ 0 ∷ 0 ∷ 0 ∷ 3 ∷ 0 ∷ 0 ∷ 0 ∷ 0 ∷ 0 ∷ 0 ∷ 0 ∷ 9 ∷ 9 ∷ [])
+    -- a weight of 8,589,934,590, 2^33 - 2, and a floor of 6,442,450,944, 2^32 + 2^31
+    ∷ lays (largestPair 1 ++ 0 ∷ 0 ∷ 0 ∷ 128 ∷ 1 ∷ []) (2 ∷ replicate 31 0 ++ 9 ∷ [])
+    (1 ∷ 0 ∷ 1 ∷ 0 ∷ 0 ∷ 0 ∷ 255 ∷ 255 ∷ 254 ∷ 255 ∷ 255 ∷ 255 ∷ 1 ∷ 0 ∷ 0 ∷ 0 ∷ 0 ∷ 0 ∷ 0 ∷ 128 ∷ 1 ∷ 0 ∷ 0 ∷ 0 ∷ 9 ∷ 9 ∷ [])
+    ∷ []
 
-layouts-written : map (λ l. laidOut (l .sheet)) layouts ≡ layouts
+laidOut : Format → ℕ → Bytes → Layout
+unfolding decode answer sideBytes reportBytes
+laidOut f n bs = elim (decode f bs) [ accepted net rest ↦ lays bs (sideAfter net (replicate 33 9)) (reportAfter f net (replicate n 9)) | refused n ↦ lays bs [] [] ]
+
+layouts-written : map (λ l. laidOut base 18 (l .sheet)) layouts ≡ layouts
 unfolding layouts laidOut
 layouts-written = refl
+
+wideLayouts-written : map (λ l. laidOut current 26 (l .sheet)) wideLayouts ≡ wideLayouts
+unfolding wideLayouts laidOut
+wideLayouts-written = refl
 
 -- ---- return numbers
 
 record Numbered : Type 0 where
   sheet : Bytes
+  sold : ℕ
   number : ℕ
 
-abbrev returns : ℕ → Bytes → Numbered
-returns n bs = record { sheet = bs; number = n }
+abbrev returnsBoth : ℕ → ℕ → Bytes → Numbered
+returnsBoth m n bs = record { sheet = bs; sold = m; number = n }
 
--- a link of weight 1,000,001 between x and y
-abbrev heavy : ℕ → ℕ → Bytes
-heavy x y = 7 ∷ x ∷ 0 ∷ y ∷ 0 ∷ 65 ∷ 66 ∷ 15 ∷ 0 ∷ []
+abbrev returns : ℕ → Bytes → Numbered
+returns n bs = returnsBoth n n bs
 
 numbers : List Numbered
 numbers =
@@ -190,7 +229,9 @@ numbers =
     -- an end outside, and both ends equal
     ∷ returns 10 (header 2 1 1 ++ link 0 2 4 ++ tree 1 1)
     ∷ returns 10 (header 2 1 1 ++ link 1 1 4 ++ tree 1 1)
-    ∷ returns 11 (header 2 1 1 ++ heavy 0 1 ++ tree 1 1)
+    -- refused by 11, and in the format in force accepted, or refused by a later check
+    ∷ returnsBoth 11 0 (header 2 1 1 ++ heavy 0 1 ++ tree 1 1)
+    ∷ returnsBoth 11 12 (header 2 1 1 ++ heavy 0 1)
     ∷ returns 12 (bridge 4 ++ 1 ∷ 0 ∷ 0 ∷ 0 ∷ [])
     -- a bit past the link count; all four links in the tree
     ∷ returns 13 (triangle ++ tree 2 9)
@@ -207,7 +248,7 @@ numbers =
     ∷ returns 9 (header 2 1 1 ++ 7 ∷ 1 ∷ 0 ∷ 1 ∷ 0 ∷ 4 ∷ [])
     ∷ returns 10 (header 2 1 1 ++ heavy 1 1)
     -- in two links, and in a link and a tree
-    ∷ returns 11 (header 2 2 1 ++ heavy 0 1 ++ 8 ∷ [])
+    ∷ returnsBoth 11 8 (header 2 2 1 ++ heavy 0 1 ++ 8 ∷ [])
     ∷ returns 10 (header 2 1 1 ++ link 0 2 4 ++ tree 1 3)
     -- in a tree: 13 and 14, 14 and 15
     ∷ returns 13 (triangle ++ tree 2 13)
@@ -219,14 +260,14 @@ numbers =
 
 numbered : Bytes → Numbered
 unfolding decode
-numbered bs = returns (numberOf (decode base bs)) bs
+numbered bs = returnsBoth (numberOf (decode base bs)) (numberOf (decode current bs)) bs
 
 numbers-returned : map (λ r. numbered (r .sheet)) numbers ≡ numbers
 unfolding numbers numbered
 numbers-returned = refl
 
--- ---- the longest sheet: document 01, "The longest sheet has 26,757 bytes"
+-- ---- the longest sheets: document 01, "The longest sheet has 26,757 bytes"
 
-longest : sheetMost base 2048 32 ≡ 26757
+longest : map (λ f. sheetMost f 2048 32) (base ∷ current ∷ []) ≡ 26757 ∷ 26757 ∷ []
 unfolding sheetMost
 longest = refl

@@ -1,6 +1,10 @@
 pub mod ReadingLaws
 pub mod ByteLaws
 pub mod Acceptance
+pub mod Outcomes
+pub mod Sizes
+pub mod Raised
+pub mod Sold
 pub mod AreaLaws
 pub mod Cases
 pub mod Longest

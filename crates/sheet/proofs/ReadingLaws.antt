@@ -102,7 +102,7 @@ nonzero-accepted (refused n) h e = absurd (omega arith)
 abbrev pub All : {A : Type 0} → A → (A → Type 0) → List A → Type 0
 All d Q xs = (i : ℕ) → i < length xs → Q (getD xs i d)
 
-all-snoc : {A : Type 0} (d : A) (Q : A → Type 0) (xs : List A) (x : A) → All d Q xs → Q x → All d Q (xs ++ x ∷ [])
+pub all-snoc : {A : Type 0} (d : A) (Q : A → Type 0) (xs : List A) (x : A) → All d Q xs → Q x → All d Q (xs ++ x ∷ [])
 all-snoc d Q xs x h q i b =
     all-suc (λ j. Q (getD (xs ++ x ∷ []) j d)) (length xs)
     (λ j c. subst Q (sym (List·getD-append xs (x ∷ []) d j c)) (h j c))

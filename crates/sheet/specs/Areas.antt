@@ -1,15 +1,17 @@
--- The side area and the report area (document 01, "Side area and report area"). Assumes nothing.
+-- The side area and the report area (document 01, "Side area and report area"), by the format. Assumes nothing.
 --   sideBytes s                the 32 bytes of the side area: node k is bit k; past its last node a side has no flag set
---   reportWidths               the widths of the report area's fields
+--   reportWidths f             the widths of the report area's fields
+--   reportLength f             how many bytes the report area has: the sum of these widths
 --   firstLink h, secondLink h  the links that a handle names; noSecond, 65535, stands for the second of a single one
 --   reportFields a             verdict, tree, nodes in the side, first link, second link, weight, floor
---   reportBytes a              the 16 bytes of the report area
+--   reportBytes f a            the bytes of the report area
 --   written new old            an area that held `old`, with `new` written to its front: the rest stands as it stood
---   sideAfter net old          the side area after the answer of the network is written; reportAfter: the report area
+--   sideAfter net old          the side area after the answer of the network is written
+--   reportAfter f net old      the report area after it
 --   sideRead nodes area        the side that stands in a side area
 --   handleOf e f               the handle whose links these are
 --   answerOf fs s              the answer with the fields fs and the side s
---   answerRead nodes side r    the answer that stands in a side area and a report area
+--   answerRead f nodes side r  the answer that stands in a side area and a report area
 use Prim.Native.Nat.{ℕ, _+_, _*_}
 use mathlib.Core.Bool.{cond}
 use mathlib.Core.List.{List, [], _∷_, _++_}
@@ -21,13 +23,17 @@ use Rattle.cuts.specs.Cut.{Side}
 use Rattle.cuts.specs.Candidate.{Handle, one, two}
 use Rattle.cuts.specs.Answer.{Answer, answer}
 use Rattle.sheet.specs.Bytes.{Bytes, fields, fieldBytes, mapBit, byteOf}
+use Rattle.sheet.specs.Sheet.{Format}
 
 unfoldable pub sideBytes : Side → Bytes
 unfolding table byteOf
 sideBytes s = table 32 (λ j. byteOf (λ i. flag s (8 * j + i)))
 
-abbrev pub reportWidths : List ℕ
-reportWidths = 1 ∷ 1 ∷ 2 ∷ 2 ∷ 2 ∷ 4 ∷ 4 ∷ []
+abbrev pub reportWidths : Format → List ℕ
+reportWidths f = 1 ∷ 1 ∷ 2 ∷ 2 ∷ 2 ∷ f .sumWidth ∷ f .sumWidth ∷ []
+
+abbrev pub reportLength : Format → ℕ
+reportLength f = 8 + 2 * f .sumWidth
 
 abbrev pub noSecond : ℕ
 noSecond = 65535
@@ -45,9 +51,9 @@ reportFields a =
     a .verdict ∷ a .best .tree ∷ a .count ∷ firstLink (a .best .handle) ∷ secondLink (a .best .handle)
     ∷ a .best .weight ∷ a .floor ∷ []
 
-unfoldable pub reportBytes : Answer → Bytes
+unfoldable pub reportBytes : Format → Answer → Bytes
 unfolding fieldBytes
-reportBytes a = fieldBytes reportWidths (reportFields a)
+reportBytes f a = fieldBytes (reportWidths f) (reportFields a)
 
 abbrev pub written : Bytes → Bytes → Bytes
 written new old = new ++ drop (length new) old
@@ -55,8 +61,8 @@ written new old = new ++ drop (length new) old
 abbrev pub sideAfter : Network → Bytes → Bytes
 sideAfter net old = written (sideBytes (answer net .best .side)) old
 
-abbrev pub reportAfter : Network → Bytes → Bytes
-reportAfter net old = written (reportBytes (answer net)) old
+abbrev pub reportAfter : Format → Network → Bytes → Bytes
+reportAfter f net old = written (reportBytes f (answer net)) old
 
 -- ---- reading back
 
@@ -75,6 +81,6 @@ answerOf fs s = record {
   verdict = getD fs 0 0;
 }
 
-unfoldable pub answerRead : ℕ → Bytes → Bytes → Answer
+unfoldable pub answerRead : Format → ℕ → Bytes → Bytes → Answer
 unfolding sideRead fields
-answerRead nodes side report = answerOf (fields reportWidths report) (sideRead nodes side)
+answerRead f nodes side report = answerOf (fields (reportWidths f) report) (sideRead nodes side)

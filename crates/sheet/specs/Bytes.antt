@@ -1,5 +1,6 @@
 -- Bytes as numbers, lowest byte first, and as maps of bits. Assumes nothing.
 --   Bytes                a list of bytes
+--   ByteSized bs         its numbers are bytes indeed
 --   number w bs          the number that the first w bytes of bs give; a byte past the end counts as 0
 --   bytesOf w v          the number v in w bytes
 --   fields ws bs         the numbers of widths ws that stand one behind the other in bs
@@ -7,15 +8,18 @@
 --   bit b i              bit i of the byte b
 --   mapBit bs k          bit k of the map bs: bit k mod 8 of byte k / 8
 --   byteOf f             the byte whose bit i is f i
-use Prim.Native.Nat.{ℕ, zero, suc, _+_, _*_, _/_, _%_, _^_}
+use Prim.Native.Nat.{ℕ, zero, suc, _+_, _*_, _/_, _%_, _^_, _<_}
 use mathlib.Core.Bool.{Bool}
 use mathlib.Core.List.{List, [], _∷_, _++_}
-use lib.ListN.{getD, drop}
+use lib.ListN.{length, getD, drop}
 use lib.Dec.{eqb}
 use Rattle.cuts.specs.Sums.{sumTo, only}
 
 abbrev pub Bytes : Type 0
 Bytes = List ℕ
+
+abbrev pub ByteSized : Bytes → Type 0
+ByteSized bs = (k : ℕ) → k < length bs → getD bs k 0 < 256
 
 unfoldable pub number : ℕ → Bytes → ℕ
 number zero bs = 0

@@ -1,8 +1,10 @@
 -- The serialised network: from its bytes to the network or the number of the first refusal, 3 to 16 (document 01, "The link sheet",
 -- "Why a sheet is turned down"). Assumes nothing.
---   Format                       what later requests change: the widths of the fields behind a map byte, one for each bit of the
---                                map, and the largest weight
---   base                         document 01's format
+--   Format                       the widths of the fields behind a map byte, one for each bit of the map; the largest weight; and the
+--                                bytes that the report area has for the weight of a side and for the floor, each
+--   base                         document 01's format, of units already sold
+--   wide                         the format of request F-2
+--   current                      the format in force
 --   Counts                       how many nodes, links and trees there are
 --   countsIn sheet               the header's three counts
 --   countChecks c                refusals 4 to 6
@@ -23,7 +25,9 @@
 --   treeChecks net bs            refusals 12 to 15
 --   treeRecord net bs            that tree, or the refusal
 --   network n ls ts              the network of n nodes with the links ls and the trees ts
---   decodeBody f c bs            the network of the records bs behind a header with the counts c, or the refusal; 16 is the last
+--   nothingBehind net bs         the network, unless bytes bs are left: refusal 16
+--   treesBehind c links bs       the network of these links and the tree records bs, of which the header counts c, or the refusal
+--   decodeBody f c bs            the network of the records bs behind a header with the counts c, or the refusal
 --   decode f sheet               the network of the sheet, or the refusal
 --   recordMost f                 the length of a longest link record: all its fields are there
 --   sheetMost f links trees      the length of a longest sheet with so many links and trees
@@ -43,9 +47,17 @@ use Rattle.sheet.specs.Reading.{Check, check, firstFailing, Reading, acc
 pub record Format : Type 0 where
   pub widths : List ℕ
   pub weightLimit : ℕ
+  pub sumWidth : ℕ
 
 abbrev pub base : Format
-base = record { widths = 2 ∷ 2 ∷ 4 ∷ []; weightLimit = 1_000_000 }
+base = record { widths = 2 ∷ 2 ∷ 4 ∷ []; weightLimit = 1_000_000; sumWidth = 4 }
+
+-- "Every 4-byte weight is allowed. Weights of sides and the floor become 8-byte numbers"
+abbrev pub wide : Format
+wide = record { widths = 2 ∷ 2 ∷ 4 ∷ []; weightLimit = 4_294_967_295; sumWidth = 8 }
+
+abbrev pub current : Format
+current = wide
 
 -- ---- header
 
@@ -155,13 +167,16 @@ treeRecord net bs =
 abbrev pub network : ℕ → List Link → List Tree → Network
 network nodes links trees = record { nodes = nodes; links = links; trees = trees }
 
--- the links, the trees, and nothing behind them
+abbrev pub nothingBehind : Network → Bytes → Reading Network
+nothingBehind net bs = unless (firstFailing (check 16 (ltb 0 (length bs)) ∷ [])) (accepted net bs)
+
+abbrev pub treesBehind : Counts → List Link → Bytes → Reading Network
+treesBehind c links bs =
+    andThen (records (λ _. treeRecord (network (c .nodes) links [])) (c .trees) [] bs) (λ trees. nothingBehind (network (c .nodes) links trees))
+
 unfoldable pub decodeBody : Format → Counts → Bytes → Reading Network
 unfolding firstFailing records linkRecord treeRecord
-decodeBody f c bs =
-    andThen (records (nextLink f (c .nodes)) (c .links) [] bs)
-    (λ links rest. andThen (records (λ _. treeRecord (network (c .nodes) links [])) (c .trees) [] rest)
-    (λ trees end. unless (firstFailing (check 16 (ltb 0 (length end)) ∷ [])) (accepted (network (c .nodes) links trees) end)))
+decodeBody f c bs = andThen (records (nextLink f (c .nodes)) (c .links) [] bs) (treesBehind c)
 
 -- document 01 calls the bytes the link sheet, and a refused sheet turned down
 unfoldable pub decode : Format → Bytes → Reading Network

@@ -15,7 +15,7 @@ use Rattle.trees.specs.Growing.{EndArrays, Laid}
 use Rattle.growth.specs.ByNode.{Ending}
 use Rattle.growth.proofs.RunLaws.{held-ending}
 use Rattle.sheet.specs.Bytes.{Bytes, mapBit}
-use Rattle.sheet.specs.Sheet.{Counts, base, treeLength, treeIn, network, Accepted}
+use Rattle.sheet.specs.Sheet.{Format, Counts, treeLength, treeIn, network, Accepted}
 use Rattle.sheet.proofs.Acceptance.{members-counted}
 use Rattle.links.specs.Answers.{linksOf}
 use Rattle.links.proofs.LinksLaws.{linksOf-length, linksOf-at}
@@ -40,7 +40,7 @@ module _ (s : Bytes) (ends : List (List ℕ)) (ws : List ℕ) (c : Counts) (at :
       ∙ ap (treeIn (network (c .nodes) links [])) (drop-drop (i * treeLength (length links)) at s ∙ ap (λ (m : ℕ). drop (at + i * treeLength m) s) (linksOf-length (c .links) (part ends 0) (part ends 1) ws))
       ∙ treeIn-any (c .nodes) links [] (networkAt s ends ws c at .trees) (drop (at + i * treeLength (c .links)) s)
 
-  module _ (a : Accepted base (networkAt s ends ws c at)) where
+  module _ {f : Format} (a : Accepted f (networkAt s ends ws c at)) where
     pub networkAt-links-most : c .links ≤ 2048
     networkAt-links-most = let e = linksOf-length (c .links) (part ends 0) (part ends 1) ws in let b = a .links-most in omega arith
 
@@ -76,7 +76,7 @@ module _ (s : Bytes) (ends : List (List ℕ)) (ws : List ℕ) (c : Counts) (at :
           ∙ sym (members-counted (networkAt s ends ws c at) (drop p s)) ∙ networkAt-spanning .counted
 
   -- the arrays have all links' ends, and they are nodes
-  pub networkAt-ending : Accepted base (networkAt s ends ws c at) → EndArrays ends → (k : ℕ) → k < c .links → Ending (part ends 0) (part ends 1) (c .nodes) k
+  pub networkAt-ending : {f : Format} → Accepted f (networkAt s ends ws c at) → EndArrays ends → (k : ℕ) → k < c .links → Ending (part ends 0) (part ends 1) (c .nodes) k
   networkAt-ending a e k b =
       let n = linksOf-length (c .links) (part ends 0) (part ends 1) ws in
       let m = networkAt-links-most a in

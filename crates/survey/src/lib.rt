@@ -25,7 +25,7 @@ ghost use Rattle.places.specs.Kept.{Kept};
 ghost use Rattle.rows.specs.Rows.{AllByNode, Indexed, Degrees};
 ghost use Rattle.choice.specs.Choice.{Says, Prior, chosen, treeCandidates};
 ghost use Rattle.sheet.specs.Bytes.{mapBit};
-ghost use Rattle.sheet.specs.Sheet.{base, treeLength, treeIn, Accepted};
+ghost use Rattle.sheet.specs.Sheet.{current, treeLength, treeIn, Accepted};
 ghost use Rattle.records.specs.Answers.{countsOf};
 ghost use Rattle.reader.specs.Answers.{networkAt};
 
@@ -83,7 +83,7 @@ fn search_listed(
     lists: &[u16],
     degrees: &[u64],
 ) -> Found
-    requires { ⌜ (at + c .trees * treeLength (c .links) ≤ length (now s)) × Accepted base (networkAt (now s) (now ends) (now weights) (countsOf c) at) ⌝ }
+    requires { ⌜ (at + c .trees * treeLength (c .links) ≤ length (now s)) × Accepted current (networkAt (now s) (now ends) (now weights) (countsOf c) at) ⌝ }
     requires { ⌜ EndArrays (now ends) × (length (now weights) ≡ 2048) × (length (now lists) ≡ 4353) × (length (now degrees) ≡ 256)
         × Indexed (networkAt (now s) (now ends) (now weights) (countsOf c) at) (now ends) (now weights) (now lists) (c .nodes) (c .links)
         × Degrees (networkAt (now s) (now ends) (now weights) (countsOf c) at) (now degrees) ⌝ }
@@ -123,7 +123,7 @@ pub fn search_trees(
     ends: &[[u8; 2048]; 2],
     weights: &[u32],
 ) -> Found
-    requires { ⌜ (at + c .trees * treeLength (c .links) ≤ length (now s)) × Accepted base (networkAt (now s) (now ends) (now weights) (countsOf c) at) ⌝ }
+    requires { ⌜ (at + c .trees * treeLength (c .links) ≤ length (now s)) × Accepted current (networkAt (now s) (now ends) (now weights) (countsOf c) at) ⌝ }
     requires { ⌜ EndArrays (now ends) × (length (now weights) ≡ 2048) ⌝ }
     ensures { λ r. ⌜ Says r (answer (networkAt (now (s .entry)) (now (ends .entry)) (now (weights .entry)) (countsOf c) at) .best) ⌝ }
 {
@@ -144,9 +144,9 @@ pub fn mark_found(
     ends: &[[u8; 2048]; 2],
     found: Found,
 )
-    requires { ⌜ (at + c .trees * treeLength (c .links) ≤ length (now s)) × ((weights : List ℕ) × Accepted base (networkAt (now s) (now ends) weights (countsOf c) at)) ⌝ }
+    requires { ⌜ (at + c .trees * treeLength (c .links) ≤ length (now s)) × ((weights : List ℕ) × Accepted current (networkAt (now s) (now ends) weights (countsOf c) at)) ⌝ }
     requires { ⌜ EndArrays (now ends) × (length (now side) ≡ 256) × (found .tree < c .trees) ⌝ }
-    ensures { λ _. ⌜ ((weights : List ℕ) (t : Tree) → Accepted base (networkAt (now (s .entry)) (now (ends .entry)) weights (countsOf c) at)
+    ensures { λ _. ⌜ ((weights : List ℕ) (t : Tree) → Accepted current (networkAt (now (s .entry)) (now (ends .entry)) weights (countsOf c) at)
         → t ≡ treeAt (networkAt (now (s .entry)) (now (ends .entry)) weights (countsOf c) at) (found .tree)
         → Fits (networkAt (now (s .entry)) (now (ends .entry)) weights (countsOf c) at) t (chosen (found .first) (found .second))
         → now (side .exit) ≡ marks (sideOf (networkAt (now (s .entry)) (now (ends .entry)) weights (countsOf c) at) t (chosen (found .first) (found .second)))) ⌝ }

@@ -15,7 +15,7 @@ use Rattle.trees.specs.Marks.{marks}
 use Rattle.records.specs.Answers.{countsOf}
 use Rattle.reader.specs.Answers.{treesFrom, networkAt}
 use Rattle.survey.proofs.NetworkLaws.{networkAt-links-most, networkAt-trees, networkAt-trees-most, networkAt-laid}
-use Rattle.answers.proofs.AnswerLaws.{count-is, weight-small, floor-is, verdict-is, floor-small}
+use Rattle.answers.proofs.AnswerLaws.{count-is, floor-is, verdict-is}
 use Rattle.answers.proofs.write_answer.Statement.{statement}
 use Rattle.answers.proofs.write_answer.Tie as tie
 
@@ -87,16 +87,8 @@ marked-here c =
 write-areas-requires : tie.Need-write-areas-requires
 write-areas-requires c κs =
     let m = c .before .before .before .before in
-    let b = bounded m in
-    let a = start (b .before) .args in
-    let p = start (b .before) .pre in
-    let says = b .before .search-trees .ensures in (
-      (p .1 .2, p .1 .3, m .mark-found .kept .0, p .0 .1 .nodes-most),
-      (
-        weight-small (a .sheet .now) (a .ends .now) (a .weights .now) (countsOf (a .c)) (a .at) says (p .0 .1),
-        floor-small (a .sheet .now) (a .ends .now) (a .weights .now) (countsOf (a .c)) (a .at) says (floor-here b) (p .0 .1),
-      ),
-    )
+    let p = start (bounded m .before) .pre in
+    (p .1 .2, p .1 .3, m .mark-found .kept .0, p .0 .1 .nodes-most)
 
 same-length : tie.Need-same-length
 same-length c = search needs

@@ -1,7 +1,7 @@
 -- `answers::write_areas` meets its contract: what it writes are the side's bytes and the fields of the answer. Assumes nothing.
 use mathlib.Core.Path.{sym, ap, _∙_}
-use native.Mathlib.Omega.{arith}
 use Rattle.sheet.specs.Bytes.{Bytes}
+use Rattle.sheet.specs.Sheet.{current}
 use Rattle.sheet.specs.Areas.{written}
 use Rattle.answers.proofs.ReportLaws.{report-fields}
 use Rattle.answers.proofs.write_areas.Statement.{statement}
@@ -14,14 +14,14 @@ start c = c .before .before .before .before
 abbrev side : tie.After-slice-known3 → tie.After-write-side
 side c = c .before .before
 
-abbrev counted : tie.After-struct-known → tie.After-count-marked
-counted c = c .before .before .before
+abbrev counted : tie.After-second-link → tie.After-count-marked
+counted c = c .before .before
 
 write-side-requires : tie.Need-write-side-requires
-write-side-requires c κs = let p = start c .pre in (p .0 .2, p .0 .0)
+write-side-requires c κs = let p = start c .pre in (p .2, p .0)
 
 count-marked-requires : tie.Need-count-marked-requires
-count-marked-requires c κs = let p = start (side c .before) .pre in (p .0 .2, p .0 .3)
+count-marked-requires c κs = let p = start (side c .before) .pre in (p .2, p .3)
 
 verdict-requires : tie.Need-verdict-requires
 verdict-requires c κs = tt
@@ -29,14 +29,8 @@ verdict-requires c κs = tt
 second-link-requires : tie.Need-second-link-requires
 second-link-requires c κs = tt
 
-cast-t14 : tie.Need-cast-t14
-cast-t14 c = let p = start (side (counted c .before) .before) .pre .1 in omega (arith, p .0, p .1)
-
-cast-t15 : tie.Need-cast-t15
-cast-t15 c = let p = start (side (counted c .before) .before) .pre .1 in omega (arith, p .0, p .1)
-
 write-report-requires : tie.Need-write-report-requires
-write-report-requires c κs = start (side (counted (c .before) .before) .before) .pre .0 .1
+write-report-requires c κs = start (side (counted (c .before) .before) .before) .pre .1
 
 same-length : tie.Need-same-length
 same-length c = side (counted (c .before .before .before .before) .before) .write-side .kept .0
@@ -53,10 +47,10 @@ returns c =
       wrote .write-side .ensures (answer .best .side) marked,
       c .before .before .write-report .ensures
           ∙ ap (λ (bs : Bytes). written bs (a .report .now))
-          (report-fields (a .found) answer says _ _ _ _
-          (verdict ∙ sym (told .before .before .verdict .ensures))
+          (report-fields (a .found) answer says current _ _ _ _
+          (verdict ∙ sym (told .before .verdict .ensures))
           (count ∙ sym (counted told .count-marked .ensures (answer .best .side) marked))
-          (told .before .second-link .ensures)
+          (told .second-link .ensures)
           floor),
     )
 
@@ -68,8 +62,6 @@ write-areas-spec =
     count-marked-requires
     verdict-requires
     second-link-requires
-    cast-t14
-    cast-t15
     write-report-requires
     same-length
     same-length-2

@@ -6,6 +6,7 @@ use mathlib.Core.List.{[], _∷_}
 use native.Mathlib.Omega.{arith}
 use lib.ListN.{length, set, length-set}
 use Rattle.sheet.specs.Bytes.{Bytes, bytesOf, fieldBytes}
+use Rattle.sheet.specs.Sheet.{current}
 use Rattle.sheet.specs.Areas.{reportWidths}
 use Rattle.areas.proofs.PutLaws.{put, set-put, putFields-put}
 use Rattle.areas.proofs.write_report.Statement.{statement}
@@ -38,18 +39,18 @@ length-second : (c : tie.After-put-two3) → let p = c .before .before .before .
     length (c .put-two3 .last .0) ≡ length (p .before .before .before .args .area .now)
 length-second c = c .put-two3 .kept .0 ∙ length-first (c .before .before .before .before)
 
-put-four-requires : tie.Need-put-four-requires
-put-four-requires c κs = omega (arith, length-second (c .before .before .before))
+put-eight-requires : tie.Need-put-eight-requires
+put-eight-requires c κs = omega (arith, length-second (c .before .before .before))
 
-length-weight : (c : tie.After-put-four) → let p = c .before .before .before .before .before .before .before .before .before .before .before .before in
-    length (c .put-four .last .0) ≡ length (p .before .before .before .args .area .now)
-length-weight c = c .put-four .kept .0 ∙ length-second (c .before .before .before .before)
+length-weight : (c : tie.After-put-eight) → let p = c .before .before .before .before .before .before .before .before .before .before .before .before in
+    length (c .put-eight .last .0) ≡ length (p .before .before .before .args .area .now)
+length-weight c = c .put-eight .kept .0 ∙ length-second (c .before .before .before .before)
 
-put-four-requires-2 : tie.Need-put-four-requires-2
-put-four-requires-2 c κs = omega (arith, length-weight (c .before .before .before))
+put-eight-requires-2 : tie.Need-put-eight-requires-2
+put-eight-requires-2 c κs = omega (arith, length-weight (c .before .before .before))
 
 same-length : tie.Need-same-length
-same-length c = c .before .before .put-four2 .kept .0 ∙ length-weight (c .before .before .before .before .before .before)
+same-length c = c .before .before .put-eight2 .kept .0 ∙ length-weight (c .before .before .before .before .before .before)
 
 returns : tie.Need-returns
 unfolding fieldBytes
@@ -64,14 +65,14 @@ returns c =
     let old : Bytes = s .args .area .now in
     let verdict : r .verdict < 256 = omega (arith, s .good .1 .0) in
     let tree : r .tree < 256 = omega (arith, s .good .1 .0) in
-    p5 .put-four2 .ensures
-    ∙ ap (put 12 (bytesOf 4 (r .floor))) (p4 .put-four .ensures
-    ∙ ap (put 8 (bytesOf 4 (r .weight))) (p3 .put-two3 .ensures
+    p5 .put-eight2 .ensures
+    ∙ ap (put 16 (bytesOf 8 (r .floor))) (p4 .put-eight .ensures
+    ∙ ap (put 8 (bytesOf 8 (r .weight))) (p3 .put-two3 .ensures
     ∙ ap (put 6 (bytesOf 2 (r .second))) (p2 .put-two2 .ensures
     ∙ ap (put 4 (bytesOf 2 (r .first))) (p1 .put-two .ensures
     ∙ ap (put 2 (bytesOf 2 (r .count))) (set-put (set old 0 (r .verdict)) 1 (r .tree) (simp length-set (omega arith)) tree
     ∙ ap (put 1 (bytesOf 1 (r .tree))) (set-put old 0 (r .verdict) (omega arith) verdict))))))
-    ∙ putFields-put 0 reportWidths (r .verdict ∷ r .tree ∷ r .count ∷ r .first ∷ r .second ∷ r .weight ∷ r .floor ∷ []) old (omega arith)
+    ∙ putFields-put 0 (reportWidths current) (r .verdict ∷ r .tree ∷ r .count ∷ r .first ∷ r .second ∷ r .weight ∷ r .floor ∷ []) old (omega arith)
 
 pub write-report-spec : {M : Type 1} → statement M
 write-report-spec =
@@ -82,7 +83,7 @@ write-report-spec =
     put-two-requires
     put-two-requires-2
     put-two-requires-3
-    put-four-requires
-    put-four-requires-2
+    put-eight-requires
+    put-eight-requires-2
     same-length
     returns)

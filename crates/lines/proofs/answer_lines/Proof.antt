@@ -1,6 +1,7 @@
 -- `lines::answer_lines` meets its contract: the line of the report, and behind it the line of the side. Assumes nothing.
 use native.Mathlib.Omega.{arith}
 use borrow.Author.Needs.{needs}
+use Rattle.sheet.specs.Sheet.{current}
 use Rattle.lines.proofs.OutputLaws.{answerLines-put}
 use Rattle.lines.proofs.answer_lines.Statement.{statement}
 use Rattle.lines.proofs.answer_lines.Tie as tie
@@ -25,7 +26,7 @@ returns c =
     let second = c .before .before in
     let first = second .before .before .before .before in
     let a = first .before .before .before .before .before .before .args in (
-      answerLines-put _ (a .side .now) (a .report .now) (first .before .read-report .ensures)
+      answerLines-put current _ (a .side .now) (a .report .now) (first .before .read-report .ensures)
           (first .answer-line .ensures .0) (second .side-line .ensures .0),
       omega (arith, first .answer-line .ensures .1, second .side-line .ensures .1),
     )

@@ -1,4 +1,4 @@
--- `lines::put_bounds` meets its contract: three fields, one behind the other, of at most 3, 10 and 10 digits. Assumes nothing.
+-- `lines::put_bounds` meets its contract: three fields, one behind the other, of at most 3, 20 and 20 digits. Assumes nothing.
 use Prim.Native.Nat.{_+_, _≤_}
 use mathlib.Core.List.{[], _∷_}
 use native.Mathlib.Omega.{arith}
@@ -22,11 +22,11 @@ weight c = c .before .before .before .before
 verdict-end : (c : tie.After-put-field) → c .put-field .result ≤ start c .args .at + 4
 verdict-end c = omega (arith, decimal-most 2 (start c .args .verdict) (omega arith))
 
-weight-end : (c : tie.After-put-field2) → c .put-field2 .result ≤ start (verdict c) .args .at + 15
-weight-end c = omega (arith, verdict-end (verdict c), decimal-most 9 (start (verdict c) .args .weight) (omega arith))
+weight-end : (c : tie.After-put-field2) → c .put-field2 .result ≤ start (verdict c) .args .at + 25
+weight-end c = omega (arith, verdict-end (verdict c), decimal-most 19 (start (verdict c) .args .weight) (omega arith))
 
-floor-end : (c : tie.After-put-field3) → c .put-field3 .result ≤ start (verdict (weight c)) .args .at + 26
-floor-end c = omega (arith, weight-end (weight c), decimal-most 9 (start (verdict (weight c)) .args .floor) (omega arith))
+floor-end : (c : tie.After-put-field3) → c .put-field3 .result ≤ start (verdict (weight c)) .args .at + 46
+floor-end c = omega (arith, weight-end (weight c), decimal-most 19 (start (verdict (weight c)) .args .floor) (omega arith))
 
 put-field-requires : tie.Need-put-field-requires
 put-field-requires c κs = omega (arith, decimal-most 2 (c .before .before .args .verdict) (omega arith))
@@ -34,12 +34,12 @@ put-field-requires c κs = omega (arith, decimal-most 2 (c .before .before .args
 put-field-requires-2 : tie.Need-put-field-requires-2
 put-field-requires-2 c κs =
     let v = c .before .before .before in
-    omega (arith, verdict-end v, decimal-most 9 (start v .args .weight) (omega arith))
+    omega (arith, verdict-end v, decimal-most 19 (start v .args .weight) (omega arith))
 
 put-field-requires-3 : tie.Need-put-field-requires-3
 put-field-requires-3 c κs =
     let w = c .before .before .before in
-    omega (arith, weight-end w, decimal-most 9 (start (verdict w) .args .floor) (omega arith))
+    omega (arith, weight-end w, decimal-most 19 (start (verdict w) .args .floor) (omega arith))
 
 same-length : tie.Need-same-length
 same-length c = omega arith

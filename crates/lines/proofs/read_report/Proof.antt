@@ -1,5 +1,6 @@
 -- `lines::read_report` meets its contract: each field is read where it stands, behind the fields before it. Assumes nothing.
 use borrow.Author.Needs.{needs}
+use Rattle.sheet.specs.Sheet.{current}
 use Rattle.sheet.proofs.AreaLaws.{fields-reportWidths}
 use Rattle.lines.proofs.read_report.Statement.{statement}
 use Rattle.lines.proofs.read_report.Tie as tie
@@ -28,22 +29,22 @@ two-requires-3 c κs = search needs
 cast-t11 : tie.Need-cast-t11
 cast-t11 c = search needs
 
-four-requires : tie.Need-four-requires
-four-requires c κs = search needs
+eight-requires : tie.Need-eight-requires
+eight-requires c κs = search needs
 
-four-requires-2 : tie.Need-four-requires-2
-four-requires-2 c κs = search needs
+eight-requires-2 : tie.Need-eight-requires-2
+eight-requires-2 c κs = search needs
 
 returns : tie.Need-returns
 returns c =
     let count = c .before .before .before .before in
     rw (
-      fields-reportWidths (count .before .before .before .before .args .area .now),
+      fields-reportWidths current (count .before .before .before .before .args .area .now),
       count .two .ensures .0,
       c .before .before .before .two2 .ensures .0,
       c .before .before .two3 .ensures .0,
-      c .before .four .ensures,
-      c .four2 .ensures,
+      c .before .eight .ensures,
+      c .eight2 .ensures,
     )
 
 pub read-report-spec : {M : Type 1} → statement M
@@ -58,6 +59,6 @@ read-report-spec =
     cast-t9
     two-requires-3
     cast-t11
-    four-requires
-    four-requires-2
+    eight-requires
+    eight-requires-2
     returns)

@@ -1,8 +1,11 @@
 -- `lines::report_lines` meets its contract: where the entry returns 0 the areas hold the answer of the sheet's network, and where it
 -- returns another number that is the sheet's refusal. Assumes nothing.
 use mathlib.Core.Path.{refl}
+use mathlib.Core.List.{[]}
 use native.Mathlib.Omega.{arith}
 use borrow.Author.Needs.{needs}
+use Rattle.sheet.proofs.AreaLaws.{sheet-back}
+use Rattle.lines.specs.Output.{mostOutput}
 use Rattle.lines.proofs.OutputLaws.{answer-output, refused-output, put-written}
 use Rattle.lines.proofs.report_lines.Statement.{statement}
 use Rattle.lines.proofs.report_lines.Tie as tie
@@ -31,13 +34,15 @@ refused-line-requires c κs = search needs
 returns : tie.Need-returns
 returns c =
     let zero = c .before .before .before .before in
-    put-written 974 _ (c .answer-lines .ensures .0) (answer-output (zero .before .before .before .wcut-report .ensures) refl refl (zero .if1 .taken))
+    let w = zero .before .before .before in
+    put-written mostOutput _ (c .answer-lines .ensures .0) (answer-output (w .wcut-report .ensures) refl refl
+    (λ net e. sheet-back _ (λ k _. omega (arith, w .before .before .before .shared-slice-known .given k)) net [] e _ _) (zero .if1 .taken))
     (c .answer-lines .ensures .1) (search needs)
 
 returns-2 : tie.Need-returns-2
 returns-2 c =
     let other = c .before .before in
-    put-written 974 _ (c .refused-line .ensures .0) (refused-output (other .before .before .before .wcut-report .ensures) refl refl (other .if1 .left))
+    put-written mostOutput _ (c .refused-line .ensures .0) (refused-output (other .before .before .before .wcut-report .ensures) refl refl (other .if1 .left))
     (omega (arith, c .refused-line .ensures .1)) (search needs)
 
 pub report-lines-spec : {M : Type 1} → statement M

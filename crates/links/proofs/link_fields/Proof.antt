@@ -4,8 +4,8 @@ use mathlib.Core.Path.{refl}
 use native.Mathlib.Omega.{arith}
 use lib.ListN.{getD}
 use borrow.Author.Needs.{needs}
-use Rattle.sheet.specs.Sheet.{base}
-use Rattle.links.proofs.RecordLaws.{fieldStart-end, recordLength-at, link-at}
+use Rattle.sheet.specs.Sheet.{current}
+use Rattle.links.proofs.RecordLaws.{current-fields, fieldStart-end, recordLength-at, link-at}
 use Rattle.links.proofs.link_fields.Statement.{statement}
 use Rattle.links.proofs.link_fields.Tie as tie
 
@@ -33,22 +33,22 @@ add-weight-at c = search needs
 two-or-requires : tie.Need-two-or-requires
 two-or-requires c κs =
     let a = c .before .before .args in
-    omega (arith, recordLength-at base (a .at) (a .s .now), fieldStart-end (getD (a .s .now) (a .at) 0))
+    omega (arith, recordLength-at current (a .at) (a .s .now), fieldStart-end current-fields (getD (a .s .now) (a .at) 0))
 
 two-or-requires-2 : tie.Need-two-or-requires-2
 two-or-requires-2 c κs =
     let a = c .before .before .before .args in
-    omega (arith, recordLength-at base (a .at) (a .s .now), fieldStart-end (getD (a .s .now) (a .at) 0))
+    omega (arith, recordLength-at current (a .at) (a .s .now), fieldStart-end current-fields (getD (a .s .now) (a .at) 0))
 
 four-or-requires : tie.Need-four-or-requires
 four-or-requires c κs =
     let a = c .before .before .before .before .args in
-    omega (arith, recordLength-at base (a .at) (a .s .now), fieldStart-end (getD (a .s .now) (a .at) 0))
+    omega (arith, recordLength-at current (a .at) (a .s .now), fieldStart-end current-fields (getD (a .s .now) (a .at) 0))
 
 returns : tie.Need-returns
 returns c =
     let a = c .before .before .before .before .before .args in
-    link-at (a .at) (getD (a .s .now) (a .at) 0) (a .s .now) refl _ _ (c .before .before .two-or .ensures) (c .before .two-or2 .ensures) (c .four-or .ensures)
+    link-at (a .at) (getD (a .s .now) (a .at) 0) (a .s .now) refl current-fields _ _ (c .before .before .two-or .ensures) (c .before .two-or2 .ensures) (c .four-or .ensures)
 
 pub link-fields-spec : {M : Type 1} → statement M
 link-fields-spec =

@@ -4,8 +4,8 @@ use mathlib.Core.Path.{sym}
 use mathlib.Core.Logic.{inl, inr, ⊎-elim}
 use native.Mathlib.Omega.{arith}
 use borrow.Author.Needs.{needs}
-use borrow.Author.Tests.{leb-true, leb-false, eqb-true, eqb-false}
-use Rattle.links.proofs.RecordLaws.{ends-refused, weight-refused, link-pass}
+use borrow.Author.Tests.{leb-true, eqb-true, eqb-false}
+use Rattle.links.proofs.RecordLaws.{ends-refused, link-pass}
 use Rattle.links.proofs.link_refusal.Statement.{statement}
 use Rattle.links.proofs.link_refusal.Tie as tie
 
@@ -15,10 +15,7 @@ returns c =
     (⊎-elim (λ w. inl (omega arith)) (λ w. inr (⊎-elim (λ v. inl (omega (arith, leb-true))) (λ v. inr (omega (arith, eqb-true))) w)) (c .if1 .came)))
 
 returns-2 : tie.Need-returns-2
-returns-2 c = sym (weight-refused _ _ _ (omega arith) (omega (arith, leb-false)) (search (needs, eqb-false)) (omega arith))
-
-returns-3 : tie.Need-returns-3
-returns-3 c = sym (link-pass _ _ _ (search (needs, eqb-false)))
+returns-2 c = sym (link-pass _ _ _ (search (needs, eqb-false)))
 
 pub link-refusal-spec : {M : Type 1} → statement M
-link-refusal-spec = tie.close (tie.spec returns returns-2 returns-3)
+link-refusal-spec = tie.close (tie.spec returns returns-2)

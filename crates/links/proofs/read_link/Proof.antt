@@ -6,7 +6,7 @@ use native.Mathlib.Omega.{arith}
 use lib.ListN.{length, drop}
 use borrow.Author.Needs.{needs}
 use Rattle.sheet.specs.Reading.{accepted, unless}
-use Rattle.sheet.specs.Sheet.{base, recordLength, linkRecord}
+use Rattle.sheet.specs.Sheet.{current, recordLength, linkRecord}
 use Rattle.records.specs.Answers.{stepNumber}
 use Rattle.links.specs.Answers.{linkOf}
 use Rattle.sheet.proofs.ReadingLaws.{unless-passed, unless-refused}
@@ -22,7 +22,7 @@ enum-known-end c = search needs
 
 -- the end is the record's, and lies in the sheet
 ends : (c : tie.After-end) → let a = c .before .before .before .before .args in
-    (c .end .given .0 .0 ≡ a .at + recordLength base (drop (a .at) (a .s .now))) × (c .end .given .0 .0 ≤ length (a .s .now))
+    (c .end .given .0 .0 ≡ a .at + recordLength current (drop (a .at) (a .s .now))) × (c .end .given .0 .0 ≤ length (a .s .now))
 ends c = rw (c .end .given .1) at (c .before .before .record-end .ensures .1)
 
 link-fields-requires : tie.Need-link-fields-requires
@@ -36,12 +36,12 @@ enum-known-n c = search needs
 
 -- what a record of the right shape says: its link, unless that is refused
 shaped : (c : tie.After-link-refusal) → let a = c .before .before .before .before .before .before .before .args in
-    linkRecord base (a .nodes) (a .start) (linkOf (a .before)) (drop (a .at) (a .s .now))
+    linkRecord current (a .nodes) (a .start) (linkOf (a .before)) (drop (a .at) (a .s .now))
     ≡ unless (c .link-refusal .result) (accepted (linkOf (c .before .link-fields .result)) (drop (c .before .before .before .end .given .0 .0) (a .s .now)))
 shaped c =
     let a = c .before .before .before .before .before .before .before .args in
     let end = c .before .before .before in
-    record-shaped base _ _ _ _ _ _ (a .at) (a .s .now) (sym (ap stepNumber (end .end .given .1)) ∙ end .before .before .record-end .ensures .0)
+    record-shaped current _ _ _ _ _ _ (a .at) (a .s .now) (sym (ap stepNumber (end .end .given .1)) ∙ end .before .before .record-end .ensures .0)
     (c .before .link-fields .ensures) (c .link-refusal .ensures) (ends end .0)
 
 returns : tie.Need-returns

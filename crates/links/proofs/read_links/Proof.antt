@@ -7,7 +7,7 @@ use borrow.Author.Needs.{needs}
 use lib.ListN.{drop}
 use lib.Dec.{eqb}
 use Rattle.cuts.specs.Sums.{table}
-use Rattle.sheet.specs.Sheet.{base, linkRecord}
+use Rattle.sheet.specs.Sheet.{current, linkRecord}
 use Rattle.links.specs.Answers.{linkOf, linkSays, LinkInside, linksOf}
 use Rattle.links.specs.declared.Record.{Record}
 use Rattle.sheet.proofs.ReadingLaws.{run-start}
@@ -18,7 +18,7 @@ use Rattle.links.proofs.read_links.Tie as tie
 
 abbrev Inv-loop : tie.InvT-loop
 Inv-loop s from nodes count ends₀ weights₀ at₀ link₀ k₀ ends weights at link k =
-    LinksRun s from nodes count ends weights at link k
+    LinksRun current s from nodes count ends weights at link k
 
 abbrev μ-loop : tie.MeasureT-loop
 μ-loop s from nodes count ends₀ weights₀ at₀ link₀ k₀ ends weights at link k = count - k
@@ -45,17 +45,17 @@ enum-known-l c = c .match .keys1
 -- what `read_link` answered
 module _ (c : tie.After-read-link Inv-loop μ-loop) where
   link-says : (r : Record) → c .read-link .result ≡ r → let a = c .before .before .before .before .before .args in let l = c .before .before .loop in
-      linkSays (a .s .now) r ≡ linkRecord base (a .nodes) (eqb (l .k) 0) (linkOf (l .link)) (drop (l .at) (a .s .now))
+      linkSays (a .s .now) r ≡ linkRecord current (a .nodes) (eqb (l .k) 0) (linkOf (l .link)) (drop (l .at) (a .s .now))
   link-says r e =
       let a = c .before .before .before .before .before .args in
       let l = c .before .before .loop in
-      subst (λ (r : Record). linkSays (a .s .now) r ≡ linkRecord base (a .nodes) (eqb (l .k) 0) (linkOf (l .link)) (drop (l .at) (a .s .now))) e (c .read-link .ensures .0)
+      subst (λ (r : Record). linkSays (a .s .now) r ≡ linkRecord current (a .nodes) (eqb (l .k) 0) (linkOf (l .link)) (drop (l .at) (a .s .now))) e (c .read-link .ensures .0)
 
   link-inside : (r : Record) → c .read-link .result ≡ r → LinkInside (c .before .before .before .before .before .args .s .now) r
   link-inside r e = subst (λ (r : Record). LinkInside (c .before .before .before .before .before .args .s .now) r) e (c .read-link .ensures .1)
 
 -- a link that was read has its ends at nodes
-good : (c : tie.After-l Inv-loop μ-loop) → GoodLink base (c .before .before .before .before .before .before .before .args .nodes) (linkOf (c .l .given .0 .0))
+good : (c : tie.After-l Inv-loop μ-loop) → GoodLink current (c .before .before .before .before .before .before .before .args .nodes) (linkOf (c .l .given .0 .0))
 good c =
     let got = c .l .given in
     next-good (c .before .before .before .before .loop .inv) (c .before .before .before .loop-test .taken) (got .0 .0) (got .0 .1 .0) (link-says (c .before .before) _ (got .1))

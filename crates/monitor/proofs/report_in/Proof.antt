@@ -5,7 +5,7 @@ use mathlib.Core.List.{[]}
 use native.Mathlib.Omega.{arith}
 use borrow.Author.Needs.{needs}
 use Rattle.sheet.specs.Reading.{numberOf}
-use Rattle.sheet.specs.Sheet.{base, decode}
+use Rattle.sheet.specs.Sheet.{current, decode}
 use Rattle.sheet.proofs.Acceptance.{decode-accepted}
 use Rattle.reader.specs.Answers.{sheetSays, TreesLast}
 use Rattle.reader.specs.declared.Outcome.{Outcome}
@@ -32,11 +32,11 @@ enum-known-c c = c .match .keys1
 -- what the reading says
 module _ (c : tie.After-read-sheet) where
   sheet-says : (r : Outcome) → c .read-sheet .result ≡ r → let a = start c .args in let got = c .read-sheet .last .1 in
-      sheetSays (a .sheet .now) (got .0) (got .1 .0) r ≡ decode base (a .sheet .now)
+      sheetSays (a .sheet .now) (got .0) (got .1 .0) r ≡ decode current (a .sheet .now)
   sheet-says r e =
       let a = start c .args in
       let got = c .read-sheet .last .1 in
-      subst (λ (r : Outcome). sheetSays (a .sheet .now) (got .0) (got .1 .0) r ≡ decode base (a .sheet .now)) e (c .read-sheet .ensures .0)
+      subst (λ (r : Outcome). sheetSays (a .sheet .now) (got .0) (got .1 .0) r ≡ decode current (a .sheet .now)) e (c .read-sheet .ensures .0)
 
   trees-last : (r : Outcome) → c .read-sheet .result ≡ r → TreesLast (start c .args .sheet .now) r
   trees-last r e = subst (λ (r : Outcome). TreesLast (start c .args .sheet .now) r) e (c .read-sheet .ensures .1 .0)
@@ -46,7 +46,7 @@ write-answer-requires c κs =
     let t = told c in
     let r = read t in
     let p = start r .pre in (
-      (omega (arith, trees-last r _ (t .c .given .1)), decode-accepted base (start r .args .sheet .now) _ [] (sym (sheet-says r _ (t .c .given .1)))),
+      (omega (arith, trees-last r _ (t .c .given .1)), decode-accepted current (start r .args .sheet .now) _ [] (sym (sheet-says r _ (t .c .given .1)))),
       (r .read-sheet .ensures .1 .1, r .read-sheet .kept .1 .1 .0 ∙ p .3, p .0, p .1),
     )
 
@@ -68,7 +68,7 @@ returns c =
     let t = told (w .before) in
     let a = start (read t) .args in
     let e = sheet-says (read t) _ (t .c .given .1) in
-    (ap numberOf e, w .write-answer .ensures .0 ∙ ap (sideLeft (a .side .now)) e, w .write-answer .ensures .1 ∙ ap (reportLeft (a .report .now)) e)
+    (ap numberOf e, w .write-answer .ensures .0 ∙ ap (sideLeft (a .side .now)) e, w .write-answer .ensures .1 ∙ ap (reportLeft current (a .report .now)) e)
 
 same-length-4 : tie.Need-same-length-4
 same-length-4 c = search needs
@@ -78,7 +78,7 @@ returns-2 c =
     let r = c .before .before .before .before .before in
     let a = start r .args in
     let e = sheet-says r _ (c .before .n .given .1) in
-    (ap numberOf e, ap (sideLeft (a .side .now)) e, ap (reportLeft (a .report .now)) e)
+    (ap numberOf e, ap (sideLeft (a .side .now)) e, ap (reportLeft current (a .report .now)) e)
 
 pub report-in-spec : {M : Type 1} → statement M
 report-in-spec =

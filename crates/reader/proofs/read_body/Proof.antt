@@ -12,7 +12,7 @@ use Rattle.trees.specs.Growing.{Held, EndArrays}
 use Rattle.growth.specs.ByNode.{Ending}
 use Rattle.growth.proofs.RunLaws.{held-ending}
 use Rattle.sheet.specs.Reading.{records}
-use Rattle.sheet.specs.Sheet.{base, nextLink, treeLength, treeRecord, network}
+use Rattle.sheet.specs.Sheet.{current, nextLink, treeLength, treeRecord, network}
 use Rattle.records.specs.Answers.{stepSays, Inside, EndsAt, countsOf}
 use Rattle.links.specs.Answers.{linksOf}
 use Rattle.reader.specs.Answers.{treesFrom}
@@ -50,11 +50,11 @@ module _ (c : tie.After-read-links) where
   links-here = linksOf (start c .args .c .links) (part ends 0) (part ends 1) weights
 
   links-say : (r : Step) → c .read-links .result ≡ r → let a = start c .args in
-      stepSays links-here (a .s .now) r ≡ records (nextLink base (a .c .nodes)) (a .c .links) [] (drop 5 (a .s .now))
+      stepSays links-here (a .s .now) r ≡ records (nextLink current (a .c .nodes)) (a .c .links) [] (drop 5 (a .s .now))
   unfolding links-here
   links-say r e =
       let a = start c .args in
-      subst (λ (r : Step). stepSays links-here (a .s .now) r ≡ records (nextLink base (a .c .nodes)) (a .c .links) [] (drop 5 (a .s .now))) e (c .read-links .ensures .0)
+      subst (λ (r : Step). stepSays links-here (a .s .now) r ≡ records (nextLink current (a .c .nodes)) (a .c .links) [] (drop 5 (a .s .now))) e (c .read-links .ensures .0)
 
   links-inside : (r : Step) → c .read-links .result ≡ r → Inside (start c .args .s .now) r
   links-inside r e = subst (λ (r : Step). Inside (start c .args .s .now) r) e (c .read-links .ensures .1 .0)
@@ -68,7 +68,7 @@ module _ (c : tie.After-at) where
   unfolding links-here net-here
   held-here =
       let a = start (links c) .args in
-      held-links (a .c .nodes) (a .c .links) (part (ends (links c)) 0) (part (ends (links c)) 1) (weights (links c)) (drop 5 (a .s .now)) (drop (c .at .given .0 .0) (a .s .now))
+      held-links current (a .c .nodes) (a .c .links) (part (ends (links c)) 0) (part (ends (links c)) 1) (weights (links c)) (drop 5 (a .s .now)) (drop (c .at .given .0 .0) (a .s .now))
       (start (links c) .pre .0 .1) (links-say (links c) _ (c .at .given .1))
 
   ending-here : (k : ℕ) → k < start (links c) .args .c .links → Ending (part (ends (links c)) 0) (part (ends (links c)) 1) (start (links c) .args .c .nodes) k
@@ -138,7 +138,7 @@ returns c =
     let l = links b in
     let a = start l .args in
     let is = c .before .before .end .given .1 in (
-      bytes-left (a .s .now) (countsOf (a .c)) (links-here l) (b .at .given .0 .0) (links-say l _ (b .at .given .1)) (treesFrom (net-here b) (a .c .trees) (drop (b .at .given .0 .0) (a .s .now)))
+      bytes-left current (a .s .now) (countsOf (a .c)) (links-here l) (b .at .given .0 .0) (links-say l _ (b .at .given .1)) (treesFrom (net-here b) (a .c .trees) (drop (b .at .given .0 .0) (a .s .now)))
           (c .before .before .end .given .0 .0) (trees-say t _ is) (c .if1 .taken),
       (tt, arrays-kept t),
     )
@@ -153,7 +153,7 @@ returns-2 c =
     let is = c .before .before .end .given .1 in
     let e = trees-end t _ is in
     let last : c .before .before .end .given .0 .0 ≡ length (a .s .now) = omega (arith, e .1, c .if1 .left) in (
-      sheet-read (a .s .now) (countsOf (a .c)) (links-here l) (b .at .given .0 .0) (links-say l _ (b .at .given .1)) (treesFrom (net-here b) (a .c .trees) (drop (b .at .given .0 .0) (a .s .now)))
+      sheet-read current (a .s .now) (countsOf (a .c)) (links-here l) (b .at .given .0 .0) (links-say l _ (b .at .given .1)) (treesFrom (net-here b) (a .c .trees) (drop (b .at .given .0 .0) (a .s .now)))
           (c .before .before .end .given .0 .0) (trees-say t _ is) last,
       (sym (e .0) ∙ last, arrays-kept t),
     )
@@ -165,13 +165,13 @@ returns-3 c =
     let b = behind t in
     let l = links b in
     let a = start l .args in
-    (refused-by-trees (a .s .now) (countsOf (a .c)) (links-here l) (b .at .given .0 .0) (links-say l _ (b .at .given .1)) (c .before .n .given .0 .0) (trees-say t _ (c .before .n .given .1)), (tt, arrays-kept t))
+    (refused-by-trees current (a .s .now) (countsOf (a .c)) (links-here l) (b .at .given .0 .0) (links-say l _ (b .at .given .1)) (c .before .n .given .0 .0) (trees-say t _ (c .before .n .given .1)), (tt, arrays-kept t))
 
 returns-4 : tie.Need-returns-4
 returns-4 c =
     let l = c .before .before .before .before .before in
     let a = start l .args in
-    (refused-by-links (a .s .now) (countsOf (a .c)) (c .before .n2 .given .0 .0) (links-say l _ (c .before .n2 .given .1)), (tt, l .read-links .ensures .1 .1))
+    (refused-by-links current (a .s .now) (countsOf (a .c)) (c .before .n2 .given .0 .0) (links-say l _ (c .before .n2 .given .1)), (tt, l .read-links .ensures .1 .1))
 
 pub read-body-spec : {M : Type 1} → statement M
 read-body-spec =

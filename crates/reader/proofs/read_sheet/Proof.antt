@@ -4,7 +4,7 @@ use mathlib.Core.Path.{_≡_, sym, subst}
 use native.Mathlib.Omega.{arith}
 use borrow.Author.Needs.{needs}
 use lib.ListN.{drop}
-use Rattle.sheet.specs.Sheet.{headerRecord}
+use Rattle.sheet.specs.Sheet.{current, headerRecord}
 use Rattle.records.specs.Answers.{countsOf, headerSays}
 use Rattle.records.specs.declared.header.Header.{Header}
 use Rattle.sheet.proofs.Acceptance.{good-counts}
@@ -54,12 +54,12 @@ returns c =
     let s = start (header (counts (body c))) .args .s .now in
     let got = counts (body c) .c .given in
     let r = body c .read-body .ensures in
-    (rw (← header-read s (countsOf (got .0 .0)) (header-says (header (counts (body c))) _ (got .1))) (r .0), r .1)
+    (rw (← header-read current s (countsOf (got .0 .0)) (header-says (header (counts (body c))) _ (got .1))) (r .0), r .1)
 
 returns-2 : tie.Need-returns-2
 returns-2 c =
     let h = c .before .before .before in
-    (refused-by-header (start h .args .s .now) (c .before .n .given .0 .0) (header-says h _ (c .before .n .given .1)), (tt, start h .pre .0))
+    (refused-by-header current (start h .args .s .now) (c .before .n .given .0 .0) (header-says h _ (c .before .n .given .1)), (tt, start h .pre .0))
 
 pub read-sheet-spec : {M : Type 1} → statement M
 read-sheet-spec =

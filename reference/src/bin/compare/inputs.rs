@@ -40,7 +40,7 @@ fn starts(random: &mut Random, longest: &Base) -> Vec<Vec<u8>> {
     let mut starts = vec![Vec::new(), CASE_A.to_vec(), longest.sheet.clone()];
     let small = faults::bases().remove(4);
     let faults = faults::singles(&small);
-    for number in [4, 5, 6, 8, 10, 11, 13, 14, 15] {
+    for number in [4, 5, 6, 8, 10, 13, 14, 15] {
         let found = faults.iter().find(|fault| fault.refusal.number == number);
         starts.extend(found.map(|fault| faults::damaged(&small, &[fault])));
     }

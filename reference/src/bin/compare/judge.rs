@@ -6,12 +6,15 @@ use std::path::PathBuf;
 
 use reference::random::Random;
 use reference::report::{self, Outcome, REPORT_BYTES, SIDE_BYTES};
+use reference::sheet::{self, BASE};
 
 use crate::entry::{self, Lent};
 use crate::program::{self, Run};
 
 const LONGEST_AREA: usize = 40;
 const LAST_REFUSAL: usize = 16;
+/// What units already sold give to a weight above 1,000,000.
+const RAISED_REFUSAL: u32 = 11;
 
 /// A sheet that has another answer than the expected one.
 pub struct Difference {
@@ -77,6 +80,9 @@ pub struct Answers {
     pub floor_zero: u64,
     pub pair: u64,
     pub later_tree: u64,
+    /// With a weight, and with a floor, of more than four bytes.
+    pub wide_weight: u64,
+    pub wide_floor: u64,
 }
 
 pub struct Judge {
@@ -92,6 +98,8 @@ pub struct Judge {
     pub by_every_side: u64,
     /// How many networks were written in a longer sheet than the shortest.
     pub longer: u64,
+    /// How many sheets units already sold accept, or refuse by another number than 11.
+    pub as_sold: u64,
 }
 
 impl Judge {
@@ -105,6 +113,7 @@ impl Judge {
             refusals: [0; LAST_REFUSAL + 1],
             by_every_side: 0,
             longer: 0,
+            as_sold: 0,
         }
     }
 
@@ -148,12 +157,32 @@ impl Judge {
     /// The sheet's answer is the expected one.
     pub fn expect(&mut self, sheet: &[u8], expected: &Outcome, through: Through) -> Judged {
         self.count(expected);
+        self.same_as_sold(sheet, expected)?;
         let side_length = self.random.between(SIDE_BYTES, LONGEST_AREA);
         let report_length = self.random.between(REPORT_BYTES, LONGEST_AREA);
         self.through_entry(sheet, expected, side_length, report_length)?;
         match through {
             Through::Entry => Ok(()),
             Through::Both => self.through_program(sheet, expected, &[]),
+        }
+    }
+
+    /// What document 01's format accepts is expected to be accepted with the same network, and what it refuses by another number
+    /// than 11 to be refused by that.
+    fn same_as_sold(&mut self, sheet: &[u8], expected: &Outcome) -> Judged {
+        let sold = sheet::read_in(&BASE, sheet);
+        if sold.as_ref().is_err_and(|refusal| refusal.number == RAISED_REFUSAL) {
+            return Ok(());
+        }
+        self.as_sold += 1;
+        let same = match (&sold, expected) {
+            (Ok(_), Ok(_)) => sold == sheet::read(sheet),
+            (Err(sold), Err(refusal)) => sold == refusal,
+            _ => false,
+        };
+        match same {
+            true => Ok(()),
+            false => self.differs(sheet, format!("{sold:?}\n"), format!("{expected:?}\n")),
         }
     }
 
@@ -189,6 +218,9 @@ impl Judge {
                 self.answers.floor_zero += u64::from(answer.floor == 0);
                 self.answers.pair += u64::from(answer.candidate.second.is_some());
                 self.answers.later_tree += u64::from(answer.candidate.tree > 0);
+                let wide = |number: u64| u64::from(number > u64::from(u32::MAX));
+                self.answers.wide_weight += wide(answer.candidate.weight);
+                self.answers.wide_floor += wide(answer.floor);
             }
         }
     }

@@ -80,9 +80,11 @@ fn print_table(judge: &Judge) {
         "accepted: {} whole, {} with floor 0, {} by a pair, {} by a later tree",
         answers.whole, answers.floor_zero, answers.pair, answers.later_tree
     );
+    println!("of more than four bytes: {} weights, {} floors", answers.wide_weight, answers.wide_floor);
     let numbers = judge.refusals.iter().enumerate().skip(1);
     let refusals: Vec<String> = numbers.map(|(number, count)| format!("{number}: {count}")).collect();
     println!("refused: {}", refusals.join(", "));
+    println!("as units already sold read them: {}", judge.as_sold);
     println!(
         "networks: {} by every side too, {} in a longer sheet than the shortest",
         judge.by_every_side, judge.longer

@@ -13,6 +13,8 @@ use crate::networks;
 const WEIGHTS: [(u64, u64); 7] = [(0, 0), (1, 1), (MOST_WEIGHT, MOST_WEIGHT), (0, 1), (1, 2), (0, 9), (0, MOST_WEIGHT)];
 
 const LONGEST: Size = Size::new(MOST_NODES, MOST_LINKS, MOST_TREES);
+/// With all weights the greatest, the sums of a row are the greatest there are.
+const HEAVIEST: Size = Size::new(MOST_NODES, MOST_LINKS, 1);
 
 /// Sizes of many nodes, with few trees since the reference takes long for many, and of few nodes with as many trees as there may be.
 const SIZES: [Size; 10] = [
@@ -40,7 +42,8 @@ pub fn kind_name(kind: &[Shape]) -> String {
     }
 }
 
-/// Networks of every kind: so many small ones, some of each size, and large ones of few links for all weights; and a longest sheet.
+/// Networks of every kind: so many small ones, some of each size, and large ones of few links for all weights; with the
+/// greatest sums; and a longest sheet.
 pub fn of_every_kind(judge: &mut Judge, random: &mut Random, small_networks: usize) -> Judged {
     for kind in kinds() {
         judge.kind(&kind_name(kind));
@@ -55,6 +58,10 @@ pub fn of_every_kind(judge: &mut Judge, random: &mut Random, small_networks: usi
             let size = few_links(random);
             of_kind(judge, random, kind, size, weights, Through::Both)?;
         }
+    }
+    for kind in kinds() {
+        judge.kind(&kind_name(kind));
+        of_kind(judge, random, kind, HEAVIEST, (MOST_WEIGHT, MOST_WEIGHT), Through::Both)?;
     }
     of_kind(judge, random, &SHAPES, LONGEST, (1, 2), Through::Both)
 }

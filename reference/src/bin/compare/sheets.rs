@@ -1,4 +1,4 @@
-//! Fixed sheets: document 01's networks, area lengths, faults, sheets cut and with single bytes changed.
+//! Fixed sheets: the documents' networks, area lengths, faults, sheets cut and with single bytes changed.
 
 use reference::faults::{self, Base, Fault};
 use reference::generate::{self, Feature, Size};
@@ -9,9 +9,9 @@ use reference::{documented, every_side};
 
 use crate::judge::{Judge, Judged, Through};
 
-/// Document 01's networks, whose lines the reference has to give too.
+/// The documents' networks, whose lines the reference has to give too.
 pub fn documented(judge: &mut Judge) -> Judged {
-    judge.kind("document 01's networks");
+    judge.kind("the documents' networks");
     for case in documented::all() {
         let outcome = report::outcome(&case.sheet);
         let lines = report::lines(&outcome);

@@ -1,10 +1,10 @@
 -- `areas::bytes::put_four` meets its contract. The two halves of the number, put one behind the other, are its four bytes.
 -- Assumes nothing.
-use Prim.Native.Nat.{_+_, _/_, _%_}
-use mathlib.Core.Path.{sym, ap, _∙_}
+use Prim.Native.Nat.{_+_}
+use mathlib.Core.Path.{ap, _∙_}
 use native.Mathlib.Omega.{arith}
-use Rattle.sheet.specs.Bytes.{Bytes, bytesOf}
-use Rattle.areas.proofs.PutLaws.{put, put-put, bytesOf-four}
+use Rattle.sheet.specs.Bytes.{bytesOf}
+use Rattle.areas.proofs.PutLaws.{put, put-halves}
 use Rattle.areas.proofs.bytes.put_four.Statement.{statement}
 use Rattle.areas.proofs.bytes.put_four.Tie as tie
 
@@ -29,13 +29,9 @@ same-length c = c .before .before .put-two2 .kept .0 ∙ c .before .before .befo
 returns : tie.Need-returns
 unfolding bytesOf
 returns c =
-    let a = c .before .before .before .before .before .before .before .before .before .args in
-    let low : Bytes = bytesOf 2 (a .v % 65536) in
-    let high : Bytes = bytesOf 2 (a .v / 65536) in
-    c .before .before .put-two2 .ensures
-    ∙ ap (λ (l : Bytes). put (a .at + 2) high l) (c .before .before .before .before .before .before .put-two .ensures)
-    ∙ put-put (a .at) low high (a .area .now) (omega arith)
-    ∙ ap (λ (l : Bytes). put (a .at) l (a .area .now)) (sym (bytesOf-four (a .v)))
+    let low = c .before .before .before .before .before .before in
+    let a = low .before .before .before .args in
+    c .before .before .put-two2 .ensures ∙ ap (put (a .at + 2) _) (low .put-two .ensures) ∙ put-halves 2 (a .at) (a .v) (a .area .now) (omega arith)
 
 pub put-four-spec : {M : Type 1} → statement M
 put-four-spec =

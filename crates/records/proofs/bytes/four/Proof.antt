@@ -1,7 +1,7 @@
 -- `bytes::four` meets its contract: the number of four bytes is that of the first two and 65,536 times that of the last two.
 -- Assumes nothing.
 use borrow.Author.Needs.{needs}
-use Rattle.sheet.proofs.ByteLaws.{number-four}
+use Rattle.sheet.proofs.ByteLaws.{number-halves}
 use Rattle.records.proofs.bytes.four.Statement.{statement}
 use Rattle.records.proofs.bytes.four.Tie as tie
 
@@ -26,7 +26,7 @@ cast-result c = search needs
 returns : tie.Need-returns
 returns c =
     let a = c .before .before .before .args in
-    rw (number-four (a .at) (a .s .now), c .before .two .ensures .0, c .two2 .ensures .0)
+    rw (number-halves 2 2 (a .at) (a .s .now), c .before .two .ensures .0, c .two2 .ensures .0)
 
 pub four-spec : {M : Type 1} → statement M
 four-spec = tie.close (tie.spec two-requires add-two two-requires-2 mul-result add-result cast-result returns)
