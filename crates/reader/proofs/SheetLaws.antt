@@ -2,7 +2,6 @@
 use Prim.Native.Nat.{ℕ, _≤_, _<_}
 use mathlib.Core.Path.{_≡_, refl, sym, ap, _∙_}
 use mathlib.Core.List.{List, [], _∷_}
-use native.Mathlib.Nat.{not-suc-le-zero}
 use native.Mathlib.Omega.{arith}
 use lib.ListN.{length, drop, length-drop}
 use lib.Seq.{drop-length}
@@ -22,9 +21,9 @@ use Rattle.links.proofs.LinksLaws.{linksOf-length, linksOf-at}
 pub held-links : (f : Format) (nodes m : ℕ) (fs ss ws : List ℕ) (bs rest : Bytes) → 0 < nodes → accepted (linksOf m fs ss ws) rest ≡ records (nextLink f nodes) m [] bs
     → Held (network nodes (linksOf m fs ss ws) []) fs ss nodes
 held-links f nodes m fs ss ws bs rest z e =
-    let all = records-all noLink (GoodLink f nodes) (nextLink f nodes) (good-link f nodes) m [] bs (λ i b. absurd (not-suc-le-zero b)) (sym e) in
+    let all = records-all noLink (GoodLink f nodes) (nextLink f nodes) (good-link f nodes) m bs (sym e) in
     record {
-      linked = record { rooted = z; first-in = λ k b. all .0 k b .first-in; second-in = λ k b. all .0 k b .second-in };
+      linked = record { rooted = z; first-in = λ k b. all k b .first-in; second-in = λ k b. all k b .second-in };
       sized = refl;
       firsts = λ k b. ap (λ (l : Link). l .first) (linksOf-at m fs ss ws k (rw (← linksOf-length m fs ss ws) b));
       seconds = λ k b. ap (λ (l : Link). l .second) (linksOf-at m fs ss ws k (rw (← linksOf-length m fs ss ws) b));

@@ -24,7 +24,7 @@ use Rattle.sheet.specs.Reading.{check, firstFailing, accepted, refused, unless,
 use Rattle.sheet.specs.Sheet.{mapLength, treeLength, treeIn, mapChecks, treeChecks, treeRecord}
 use Rattle.reader.specs.Answers.{treesFrom}
 use Rattle.sheet.proofs.Acceptance.{ones-below}
-use Rattle.sheet.proofs.ReadingLaws.{numbered, passed, unless-append, unless-refused, Run, run-start, run-more, run-done}
+use Rattle.sheet.proofs.ReadingLaws.{lacks, passed, unless-append, unless-refused, Run, run-start, run-more, run-done}
 
 -- ---- the checks of a map
 
@@ -84,7 +84,7 @@ memberLinks-map net t map links n e = rw (n, e) (select-congr links (mapBit map)
 
 -- ---- what is read
 
-map-numbered : (nodes links : ℕ) (map : Bytes) → numbered (mapChecks nodes links map) ≡ true
+map-numbered : (nodes links : ℕ) (map : Bytes) → lacks 0 (mapChecks nodes links map) ≡ true
 unfolding mapChecks
 map-numbered nodes links map = refl
 

@@ -8,7 +8,7 @@ use native.Mathlib.Nat.{not-suc-le-zero}
 use native.Mathlib.Omega.{arith}
 use lib.ListN.{length, getD, drop}
 use lib.Dec.{eqb, leb, ltb}
-use borrow.Author.Tests.{ltb-false, leb-false, le-leb, eqb-true, eqb-false, not-false}
+use borrow.Author.Tests.{ltb-false, leb-false, le-leb, eqb-true, eqb-false, ne-eqb, not-false}
 use Rattle.cuts.specs.Sums.{countTo, anyTo, allTo}
 use Rattle.cuts.specs.Network.{Link, Tree, Network, Linked, noLink, noTree, flag, linkCount}
 use Rattle.cuts.specs.Tree.{memberCount, joins, spread, spreads, root, joined, spans}
@@ -16,8 +16,8 @@ use Rattle.cuts.proofs.FlagLaws.{clash, neither}
 use Rattle.cuts.proofs.SumLaws.{anyTo-at, sum-congr, count-cut, table-length, table-at}
 use Rattle.sheet.specs.Bytes.{Bytes, mapBit}
 use Rattle.sheet.specs.Reading.{Check, Reading, accepted, numberOf, check, firstFailing, records}
-use Rattle.sheet.specs.Sheet.{Format, Accepted, Counts, countsIn, countChecks, headerRecord, recordLength, linkIn, shapeChecks, valueChecks, linkRecord, nextLink, mapLength, treeLength, treeIn, mapChecks, treeChecks, treeRecord, network, decodeBody, decode}
-use Rattle.sheet.proofs.ReadingLaws.{passed, unless-accepted, andThen-accepted, Nonzero, unless-nonzero, andThen-nonzero, records-nonzero, nonzero-accepted, All, records-all}
+use Rattle.sheet.specs.Sheet.{Format, Accepted, Counts, countsIn, countChecks, headerRecord, recordLength, linkIn, shapeChecks, valueChecks, linkRecord, nextLink, mapLength, treeLength, treeIn, mapChecks, treeChecks, treeRecord, network, treesBehind, decodeBody, decode}
+use Rattle.sheet.proofs.ReadingLaws.{passed, unless-accepted, andThen-accepted, Never, unless-never, andThen-never, records-never, never-zero, records-counted, All, records-all}
 
 -- ---- the header
 
@@ -130,90 +130,121 @@ module _ (nodes : ℕ) (links : List Link) (ts us : List Tree) where
 
 -- ---- the whole sheet
 
-none : {A : Type 0} (d : A) (Q : A → Type 0) → All d Q []
-none d Q i b = absurd (not-suc-le-zero b)
+-- a sheet that gives the network: its header, its links and its trees are read one behind the other, and no byte is left
+pub record Parts (f : Format) (sheet : Bytes) (net : Network) (rest : Bytes) : Type 0 where
+  pub counts : Counts
+  pub body : Bytes
+  pub behind : Bytes
+  pub header-read : headerRecord sheet ≡ accepted counts body
+  pub nodes-are : counts .nodes ≡ net .nodes
+  pub links-read : records (nextLink f (net .nodes)) (counts .links) [] body ≡ accepted (net .links) behind
+  pub trees-read : records (λ _. treeRecord (network (net .nodes) (net .links) [])) (counts .trees) [] behind ≡ accepted (net .trees) rest
+  pub none-left : ltb 0 (length rest) ≡ false
 
-pub decode-accepted : (f : Format) (sheet : Bytes) (net : Network) (rest : Bytes) → decode f sheet ≡ accepted net rest → Accepted f net
-unfolding decode decodeBody
-decode-accepted f sheet net rest e =
-    let h = andThen-accepted (headerRecord sheet) _ e in
-    let c : Counts = h .0 in
-    let n : ℕ = c .nodes in
-    let l = andThen-accepted (records (nextLink f n) (c .links) [] (h .1)) _ (h .3) in
-    let t = andThen-accepted (records (λ _. treeRecord (network n (l .0) [])) (c .trees) [] (l .1)) _ (l .3) in
-    let end = unless-accepted (firstFailing (check 16 (ltb 0 (length (t .1))) ∷ [])) _ (t .3) in
-    let q : network n (l .0) (t .0) ≡ net = cc in
-    subst (Accepted f) q (from c (good-counts sheet c (h .1) (h .2)) (l .0) (t .0)
-    (records-all noLink (GoodLink f n) (nextLink f n) (good-link f n) (c .links) [] (h .1) (none noLink (GoodLink f n)) (l .2))
-    (records-all noTree (GoodTree (network n (l .0) [])) (λ _. treeRecord (network n (l .0) [])) (good-tree (network n (l .0) [])) (c .trees) [] (l .1)
-    (none noTree (GoodTree (network n (l .0) []))) (t .2)))
-  where
-    from : (c : Counts) → GoodCounts c → (links : List Link) (trees : List Tree) → All noLink (GoodLink f (c .nodes)) links × (length links ≡ 0 + c .links)
-        → All noTree (GoodTree (network (c .nodes) links [])) trees × (length trees ≡ 0 + c .trees) → Accepted f (network (c .nodes) links trees)
-    from c w links trees g s =
-        let linked : Linked (network (c .nodes) links trees) = record {
-          rooted = let a = w .nodes-least in omega arith;
-          first-in = λ k b. g .0 k b .first-in;
-          second-in = λ k b. g .0 k b .second-in;
-        } in
-        record {
-          sound = record {
-            several = w .nodes-least;
-            linked = linked;
-            listed = let a = w .trees-least in let b = s .1 in omega arith;
-            spanning = λ i b. let t = good-any (c .nodes) links [] trees (s .0 i b) in record { linked = linked; counted = t .counted; spanning = t .spanning };
-          };
-          nodes-most = w .nodes-most;
-          links-most = let a = w .links-most in let b = g .1 in omega arith;
-          trees-most = let a = w .trees-most in let b = s .1 in omega arith;
-          ends-differ = λ k b. g .0 k b .differ;
-          weights-most = λ k b. g .0 k b .light;
-          members-sized = λ i b. s .0 i b .sized;
-        }
+module _ (f : Format) (sheet : Bytes) (net : Network) (rest : Bytes) (e : decode f sheet ≡ accepted net rest) where
+  pub decode-parts : Parts f sheet net rest
+  unfolding decode decodeBody firstFailing
+  decode-parts =
+      let h = andThen-accepted (headerRecord sheet) (decodeBody f) e in
+      let c : Counts = h .0 in
+      let l = andThen-accepted (records (nextLink f (c .nodes)) (c .links) [] (h .1)) (treesBehind c) (h .3) in
+      let t = andThen-accepted (records (λ _. treeRecord (network (c .nodes) (l .0) [])) (c .trees) [] (l .1)) _ (l .3) in
+      let cs : List Check = check 16 (ltb 0 (length (t .1))) ∷ [] in
+      let end = unless-accepted (firstFailing cs) _ (t .3) in
+      let q : network (c .nodes) (l .0) (t .0) ≡ net = cc in
+      let r : t .1 ≡ rest = cc in
+      subst (Parts f sheet net) r (subst (λ (m : Network). Parts f sheet m (t .1)) q (record {
+        counts = c;
+        body = h .1;
+        behind = l .1;
+        header-read = h .2;
+        nodes-are = refl;
+        links-read = l .2;
+        trees-read = t .2;
+        none-left = passed 16 cs refl (end .0);
+      }))
 
-nothing-left : (f : Format) (sheet : Bytes) (net : Network) (rest : Bytes) → decode f sheet ≡ accepted net rest → rest ≡ []
-unfolding decode decodeBody firstFailing
-nothing-left f sheet net rest e =
-    let h = andThen-accepted (headerRecord sheet) _ e in
-    let c : Counts = h .0 in
-    let l = andThen-accepted (records (nextLink f (c .nodes)) (c .links) [] (h .1)) _ (h .3) in
-    let t = andThen-accepted (records (λ _. treeRecord (network (c .nodes) (l .0) [])) (c .trees) [] (l .1)) _ (l .3) in
-    let cs : List Check = check 16 (ltb 0 (length (t .1))) ∷ [] in
-    let end = unless-accepted (firstFailing cs) _ (t .3) in
-    let q : t .1 ≡ rest = cc in
-    let none : length rest ≤ 0 = rw q at (ltb-false 0 (length (t .1)) (passed 16 cs refl (end .0))) in
-    empty rest none
-  where
-    empty : (bs : Bytes) → length bs ≤ 0 → bs ≡ []
-    empty [] b = refl
-    empty (x ∷ bs) b = absurd (not-suc-le-zero b)
+  pub decode-accepted : Accepted f net
+  decode-accepted =
+      let p = decode-parts in
+      let first : Network = network (net .nodes) (net .links) [] in
+      from (p .counts) (p .nodes-are) (good-counts sheet (p .counts) (p .body) (p .header-read))
+      (records-all noLink (GoodLink f (net .nodes)) (nextLink f (net .nodes)) (good-link f (net .nodes)) (p .counts .links) (p .body) (p .links-read))
+      (records-counted (nextLink f (net .nodes)) (p .counts .links) [] (p .body) (p .links-read))
+      (records-all noTree (GoodTree first) (λ _. treeRecord first) (good-tree first) (p .counts .trees) (p .behind) (p .trees-read))
+      (records-counted (λ _. treeRecord first) (p .counts .trees) [] (p .behind) (p .trees-read))
+    where
+      from : (c : Counts) → c .nodes ≡ net .nodes → GoodCounts c → All noLink (GoodLink f (net .nodes)) (net .links) → length (net .links) ≡ 0 + c .links
+          → All noTree (GoodTree (network (net .nodes) (net .links) [])) (net .trees) → length (net .trees) ≡ 0 + c .trees → Accepted f net
+      from c n w g links s trees =
+          let linked : Linked net = record {
+            rooted = let a = w .nodes-least in omega arith;
+            first-in = λ k b. g k b .first-in;
+            second-in = λ k b. g k b .second-in;
+          } in
+          record {
+            sound = record {
+              several = let a = w .nodes-least in omega arith;
+              linked = linked;
+              listed = let a = w .trees-least in omega arith;
+              spanning = λ i b. let t = good-any (net .nodes) (net .links) [] (net .trees) (s i b) in record { linked = linked; counted = t .counted; spanning = t .spanning };
+            };
+            nodes-most = let a = w .nodes-most in omega arith;
+            links-most = let a = w .links-most in omega arith;
+            trees-most = let a = w .trees-most in omega arith;
+            ends-differ = λ k b. g k b .differ;
+            weights-most = λ k b. g k b .light;
+            members-sized = λ i b. s i b .sized;
+          }
 
-header-nonzero : (sheet : Bytes) → Nonzero (headerRecord sheet)
-unfolding headerRecord
-header-nonzero sheet = unless-nonzero (firstFailing (check 3 (ltb (length sheet) 5) ∷ countChecks (countsIn sheet))) (accepted (countsIn sheet) (drop 5 sheet)) tt
+  nothing-left : rest ≡ []
+  nothing-left = empty rest (ltb-false 0 (length rest) (decode-parts .none-left))
+    where
+      empty : (bs : Bytes) → length bs ≤ 0 → bs ≡ []
+      empty [] b = refl
+      empty (x ∷ bs) b = absurd (not-suc-le-zero b)
 
-link-nonzero : (f : Format) (nodes : ℕ) (start : Bool) (before : Link) (bs : Bytes) → Nonzero (linkRecord f nodes start before bs)
-unfolding linkRecord
-link-nonzero f nodes start before bs =
-    let l : Link = linkIn f before bs in
-    unless-nonzero (firstFailing (shapeChecks f start bs ++ valueChecks f nodes l)) (accepted l (drop (recordLength f bs) bs)) tt
+-- ---- refusals that are never given
 
-tree-nonzero : (net : Network) (bs : Bytes) → Nonzero (treeRecord net bs)
-unfolding treeRecord
-tree-nonzero net bs = unless-nonzero (firstFailing (treeChecks net bs)) (accepted (treeIn net bs) (drop (treeLength (linkCount net)) bs)) tt
+-- a refusal that is neither the header's nor a tree's, and no link's as long as P holds, which goes on from link to link
+module _ (f : Format) (n : ℕ) (header : 3 ≤ n → 7 ≤ n) (early : n < 12) where
+  header-never : (sheet : Bytes) → Never n (headerRecord sheet)
+  unfolding headerRecord countChecks
+  header-never sheet =
+      unless-never n (check 3 (ltb (length sheet) 5) ∷ countChecks (countsIn sheet)) (accepted (countsIn sheet) (drop 5 sheet))
+      (rw (ne-eqb 3 n (λ e. omega (arith, header (omega arith))), ne-eqb 4 n (λ e. omega (arith, header (omega arith))), ne-eqb 5 n (λ e. omega (arith, header (omega arith))), ne-eqb 6 n (λ e. omega (arith, header (omega arith))))) tt
 
-decode-nonzero : (f : Format) (sheet : Bytes) → Nonzero (decode f sheet)
-unfolding decode decodeBody
-decode-nonzero f sheet =
-    andThen-nonzero (headerRecord sheet) (decodeBody f) (header-nonzero sheet)
-    (λ c body. let n : ℕ = c .nodes in
-    andThen-nonzero (records (nextLink f n) (c .links) [] body) _ (records-nonzero (nextLink f n) (λ got bs. link-nonzero f n (eqb (length got) 0) _ bs) (c .links) [] body)
-    (λ links rest. let one : Bytes → Reading Tree = treeRecord (network n links []) in
-    andThen-nonzero (records (λ _. one) (c .trees) [] rest) _ (records-nonzero (λ _. one) (λ got. tree-nonzero (network n links [])) (c .trees) [] rest)
-    (λ trees end. unless-nonzero (firstFailing (check 16 (ltb 0 (length end)) ∷ [])) (accepted (network n links trees) end) tt)))
+  tree-never : (net : Network) (bs : Bytes) → Never n (treeRecord net bs)
+  unfolding treeRecord treeChecks mapChecks
+  tree-never net bs =
+      unless-never n (treeChecks net bs) (accepted (treeIn net bs) (drop (treeLength (linkCount net)) bs))
+      (rw (ne-eqb 12 n (λ e. omega arith), ne-eqb 13 n (λ e. omega arith), ne-eqb 14 n (λ e. omega arith), ne-eqb 15 n (λ e. omega arith))) tt
+
+  trees-never : (c : Counts) (links : List Link) (bs : Bytes) → Never n (treesBehind c links bs)
+  trees-never c links bs =
+      let one : Bytes → Reading Tree = treeRecord (network (c .nodes) links []) in
+      andThen-never n (records (λ _. one) (c .trees) [] bs) _
+      (records-never n (λ _ _. Unit {0}) (λ _. one) (λ _ bs _. tree-never (network (c .nodes) links []) bs) (λ _ _ _ _ _ _. tt) (c .trees) [] bs tt)
+      (λ trees end _. unless-never n (check 16 (ltb 0 (length end)) ∷ []) (accepted (network (c .nodes) links trees) end) (rw (ne-eqb 16 n (λ e. omega arith))) tt)
+
+  pub decode-never : (P : List Link → Bytes → Type 0) → ((nodes : ℕ) (got : List Link) (bs : Bytes) → P got bs → Never n (nextLink f nodes got bs))
+      → ((nodes : ℕ) (got : List Link) (bs : Bytes) (l : Link) (rest : Bytes) → P got bs → nextLink f nodes got bs ≡ accepted l rest → P (got ++ l ∷ []) rest)
+      → (sheet : Bytes) → ((c : Counts) (bs : Bytes) → headerRecord sheet ≡ accepted c bs → P [] bs) → Never n (decode f sheet)
+  unfolding decode decodeBody
+  decode-never P link keeps sheet start =
+      andThen-never n (headerRecord sheet) (decodeBody f) (header-never sheet)
+      (λ c bs e. andThen-never n (records (nextLink f (c .nodes)) (c .links) [] bs) (treesBehind c)
+      (records-never n P (nextLink f (c .nodes)) (link (c .nodes)) (keeps (c .nodes)) (c .links) [] bs (start c bs e)) (λ links rest _. trees-never c links rest))
+
+link-nonzero : (f : Format) (nodes : ℕ) (got : List Link) (bs : Bytes) → Never 0 (nextLink f nodes got bs)
+unfolding linkRecord shapeChecks valueChecks
+link-nonzero f nodes got bs =
+    let l : Link = linkIn f (getD got (length got - 1) noLink) bs in
+    unless-never 0 (shapeChecks f (eqb (length got) 0) bs ++ valueChecks f nodes l) (accepted l (drop (recordLength f bs) bs)) refl tt
 
 -- number 0: a network was read, and nothing is left
 pub decode-zero : (f : Format) (sheet : Bytes) → numberOf (decode f sheet) ≡ 0 → (net : Network) × (decode f sheet ≡ accepted net [])
 decode-zero f sheet z =
-    let a = nonzero-accepted (decode f sheet) (decode-nonzero f sheet) z in
+    let never = decode-never f 0 (λ b. absurd (omega arith)) (omega arith) (λ _ _. Unit {0}) (λ nodes got bs _. link-nonzero f nodes got bs) (λ _ _ _ _ _ _ _. tt) sheet (λ _ _ _. tt) in
+    let a = never-zero (decode f sheet) never z in
     (a .0, a .2 ∙ ap (accepted (a .0)) (nothing-left f sheet (a .0) (a .1) (a .2)))

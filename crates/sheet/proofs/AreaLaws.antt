@@ -142,25 +142,16 @@ module _ {f : Format} (net : Network) (v : Accepted f net) where
 
 -- ---- from the bytes of the sheet to the bytes of the areas
 
--- weights of four bytes, and room for those of sides
-module _ (f : Format) (four : getD (f .widths) 2 0 ≡ 4) (room : 2_048 * 4_294_967_295 < 256 ^ f .sumWidth) (sheet : Bytes) (bytes : ByteSized sheet)
-    (net : Network) (rest : Bytes) (e : decode f sheet ≡ accepted net rest) (side report : Bytes) where
-  weights-fit : (s : Side) → cutWeight net s < 256 ^ f .sumWidth
-  weights-fit s = let m = side-most net (decode-light f four sheet bytes net rest e .0) s in omega arith
-
-  sheet-back-in : answerRead f (net .nodes) (sideAfter net side) (reportAfter f net report) ≡ answer net
-  sheet-back-in = answer-back net (decode-accepted f sheet net rest e) weights-fit side report
-
-  sheet-owed-in : Owed net (answerRead f (net .nodes) (sideAfter net side) (reportAfter f net report))
-  sheet-owed-in = areas-owed net (decode-accepted f sheet net rest e) weights-fit side report
-
--- the format in force has that room
+-- in the format in force, whose report has room for sums of weights of four bytes
 module _ (sheet : Bytes) (bytes : ByteSized sheet) (net : Network) (rest : Bytes) (e : decode current sheet ≡ accepted net rest) (side report : Bytes) where
+  weights-fit : (s : Side) → cutWeight net s < 256 ^ current .sumWidth
+  weights-fit s = let m = side-most net (decode-light current refl sheet bytes net rest e .0) s in omega arith
+
   pub sheet-back : answerRead current (net .nodes) (sideAfter net side) (reportAfter current net report) ≡ answer net
-  sheet-back = sheet-back-in current refl (omega arith) sheet bytes net rest e side report
+  sheet-back = answer-back net (decode-accepted current sheet net rest e) weights-fit side report
 
   pub sheet-owed : Owed net (answerRead current (net .nodes) (sideAfter net side) (reportAfter current net report))
-  sheet-owed = sheet-owed-in current refl (omega arith) sheet bytes net rest e side report
+  sheet-owed = areas-owed net (decode-accepted current sheet net rest e) weights-fit side report
 
 -- in document 01's format four bytes are enough, by the largest weight
 module _ (sheet : Bytes) (net : Network) (rest side report : Bytes) where

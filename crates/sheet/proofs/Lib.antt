@@ -1,7 +1,7 @@
 pub mod ReadingLaws
 pub mod ByteLaws
 pub mod Acceptance
-pub mod Outcomes
+pub mod Agree
 pub mod Sizes
 pub mod Raised
 pub mod Sold

@@ -13,13 +13,13 @@ use lib.Seq.{drop-append-le, length-take-le, take-all}
 use lib.Dec.{eqb, leb, ltb}
 use borrow.Author.Tests.{lt-ltb, le-ltb, ne-eqb}
 use Rattle.cuts.specs.Sums.{sumTo, only}
-use Rattle.cuts.specs.Network.{Link, Tree, Network, noLink, linkCount}
+use Rattle.cuts.specs.Network.{Link, Tree, Network, linkCount}
 use Rattle.cuts.specs.Tree.{spans}
 use Rattle.cuts.proofs.SumLaws.{anyTo-congr, sum-congr, sum-mono, sum-less, table-congr}
 use Rattle.sheet.specs.Bytes.{Bytes, number, bit, mapBit}
 use Rattle.sheet.specs.Reading.{Check, check, firstFailing, Reading, accepted, refused, numberOf, unless, andThen, records}
 use Rattle.sheet.specs.Sheet.{Format, Counts, countsIn, countChecks, headerRecord, mapByte, fieldStart, recordLength, field, linkIn, shapeChecks, valueChecks, linkRecord, nextLink, mapLength, treeLength, treeIn, mapChecks, treeChecks, treeRecord, network, decodeBody, decode, recordMost, sheetMost}
-use Rattle.sheet.proofs.ReadingLaws.{unless-accepted, andThen-accepted, records-all}
+use Rattle.sheet.proofs.ReadingLaws.{unless-accepted, andThen-accepted, records-counted}
 use Rattle.sheet.proofs.Acceptance.{GoodCounts, good-counts, decode-zero}
 
 -- ---- reading at the front
@@ -249,7 +249,7 @@ module _ (f : Format) (c : Counts) where
 
   links-counted : (bs : Bytes) (links : List Link) (rest : Bytes) → readLinks bs ≡ accepted links rest → length links ≡ c .links
   links-counted bs links rest e =
-      omega (arith, records-all noLink (λ _. Unit {0}) (nextLink f (c .nodes)) (λ got bs l rest e. tt) (c .links) [] bs (λ i b. tt) e .1)
+      omega (arith, records-counted (nextLink f (c .nodes)) (c .links) [] bs e)
 
   links-local : Local (c .links * recordMost f) 0 readLinks
   links-local = records-local (nextLink f (c .nodes)) (λ got. linkRecord-local f (c .nodes) _ _) (c .links) []

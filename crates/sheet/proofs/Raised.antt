@@ -12,7 +12,7 @@ use Rattle.sheet.specs.Bytes.{Bytes}
 use Rattle.sheet.specs.Reading.{Check, check, firstFailing, Reading, accepted, unless, records}
 use Rattle.sheet.specs.Sheet.{Format, headerRecord, fieldStart, recordLength, field, linkIn, shapeChecks, valueChecks, linkRecord, nextLink, treesBehind, decodeBody, decode}
 use Rattle.sheet.proofs.ReadingLaws.{unless-append}
-use Rattle.sheet.proofs.Outcomes.{Agree, agree-via, agree-unless, agree-andThen, agree-records}
+use Rattle.sheet.proofs.Agree.{Agree, agree-via, agree-unless, agree-andThen, agree-records}
 
 module _ (f : Format) (most total : ℕ) (more : f .weightLimit ≤ most) where
   abbrev raised : Format

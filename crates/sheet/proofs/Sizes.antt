@@ -1,10 +1,9 @@
 -- How large the numbers of a sheet are, since its bytes are bytes: a weight and a share have four of them. Where every weight of four
 -- bytes is allowed, no sheet is refused by 11. Assumes nothing.
 use Prim.Native.Nat.{ℕ, zero, suc, _+_, _-_, _^_, _≤_, _<_}
-use mathlib.Core.Path.{_≡_, refl, sym, ap, _∙_, subst}
+use mathlib.Core.Path.{_≡_, refl, sym, ap, subst}
 use mathlib.Core.Bool.{Bool, true, false, _||_, cond}
 use mathlib.Core.List.{List, [], _∷_, _++_}
-use native.Mathlib.Nat.{not-suc-le-zero}
 use native.Mathlib.Omega.{arith}
 use native.Mathlib.Decide.{decLt}
 use lib.ListN.{length, getD, drop, List·getD-eq-default}
@@ -14,11 +13,10 @@ use borrow.Author.Tests.{le-ltb}
 use Rattle.cuts.specs.Network.{Link, Tree, Network, noLink, noTree, linkCount}
 use Rattle.cuts.specs.Limits.{Light, LightShares}
 use Rattle.sheet.specs.Bytes.{Bytes, ByteSized, number, bit}
-use Rattle.sheet.specs.Reading.{Check, check, firstFailing, Reading, accepted, numberOf, unless, records}
-use Rattle.sheet.specs.Sheet.{Format, Counts, countsIn, countChecks, headerRecord, mapByte, fieldStart, recordLength, field, linkIn, shapeChecks, valueChecks, linkRecord, nextLink, treeLength, treeIn, treeChecks, treeRecord, network, treesBehind, decodeBody, decode}
-use Rattle.sheet.proofs.ReadingLaws.{unless-accepted, unless-append, andThen-accepted, All, all-snoc}
-use Rattle.sheet.proofs.Acceptance.{decode-accepted}
-use Rattle.sheet.proofs.Outcomes.{records-kept, Never, unless-never, andThen-never, records-never, treesBehind-never}
+use Rattle.sheet.specs.Reading.{Check, check, firstFailing, Reading, accepted, numberOf, unless}
+use Rattle.sheet.specs.Sheet.{Format, Counts, countsIn, countChecks, headerRecord, mapByte, fieldStart, recordLength, field, linkIn, shapeChecks, valueChecks, linkRecord, nextLink, treeLength, treeIn, treeChecks, treeRecord, network, decode}
+use Rattle.sheet.proofs.ReadingLaws.{unless-accepted, unless-append, Never, unless-never, never-number, records-kept, All, all-snoc, all-none}
+use Rattle.sheet.proofs.Acceptance.{decode-parts, decode-accepted, decode-never}
 
 -- ---- bytes
 
@@ -91,6 +89,10 @@ tree-shared net got bs t rest p e =
     let b : number 4 bs < 2 ^ 32 = number-below 4 bs (p .1) in
     (all-snoc noTree (λ u. u .share < 2 ^ 32) got t (p .0) (omega arith), subst ByteSized d (sized-drop (treeLength (linkCount net)) bs (p .1)))
 
+-- where the first link starts
+start : (sheet : Bytes) → ByteSized sheet → (c : Counts) (bs : Bytes) → headerRecord sheet ≡ accepted c bs → Weighed [] bs
+start sheet h c bs e = (all-none noLink (λ l. l .weight < 2 ^ 32), subst ByteSized (headerRecord-rest sheet c bs e) (sized-drop 5 sheet h))
+
 module _ (f : Format) (four : getD (f .widths) 2 0 ≡ 4) where
   weight-below : (before : Link) (bs : Bytes) → before .weight < 2 ^ 32 → ByteSized bs → linkIn f before bs .weight < 2 ^ 32
   unfolding linkIn
@@ -107,22 +109,13 @@ module _ (f : Format) (four : getD (f .widths) 2 0 ≡ 4) where
 
   -- so eight bytes hold the weight of every side, and three times the shares
   pub decode-light : (sheet : Bytes) → ByteSized sheet → (net : Network) (rest : Bytes) → decode f sheet ≡ accepted net rest → Light net × LightShares (net .trees)
-  unfolding decode decodeBody
   decode-light sheet h net rest e =
       let v = decode-accepted f sheet net rest e in
-      let r = andThen-accepted (headerRecord sheet) (decodeBody f) e in
-      let c : Counts = r .0 in
-      let n : ℕ = c .nodes in
-      let k = andThen-accepted (records (nextLink f n) (c .links) [] (r .1)) (treesBehind c) (r .3) in
-      let first : Network = network n (k .0) [] in
-      let t = andThen-accepted (records (λ _. treeRecord first) (c .trees) [] (k .1)) _ (k .3) in
-      let end = unless-accepted (firstFailing (check 16 (ltb 0 (length (t .1))) ∷ [])) _ (t .3) in
-      let q : network n (k .0) (t .0) ≡ net = cc in
-      let links = records-kept Weighed (nextLink f n) (link-weighed n) (c .links) [] (r .1) (λ i b. absurd (not-suc-le-zero b), subst ByteSized (headerRecord-rest sheet c (r .1) (r .2)) (sized-drop 5 sheet h)) (k .2) in
-      let trees = records-kept Shared (λ _. treeRecord first) (tree-shared first) (c .trees) [] (k .1) (λ i b. absurd (not-suc-le-zero b), links .1) (t .2) in (
-        record { few = v .links-most; small = subst (λ (m : Network). All noLink (λ l. l .weight < 2 ^ 32) (m .links)) q (links .0) },
-        record { few = v .trees-most; small = subst (λ (m : Network). All noTree (λ u. u .share < 2 ^ 32) (m .trees)) q (trees .0) },
-      )
+      let p = decode-parts f sheet net rest e in
+      let first : Network = network (net .nodes) (net .links) [] in
+      let links = records-kept Weighed (nextLink f (net .nodes)) (link-weighed (net .nodes)) (p .counts .links) [] (p .body) (start sheet h (p .counts) (p .body) (p .header-read)) (p .links-read) in
+      let trees = records-kept Shared (λ _. treeRecord first) (tree-shared first) (p .counts .trees) [] (p .behind) (all-none noTree (λ t. t .share < 2 ^ 32), links .1) (p .trees-read) in
+      (record { few = v .links-most; small = links .0 }, record { few = v .trees-most; small = trees .0 })
 
   -- ---- a limit that no weight passes
 
@@ -130,26 +123,16 @@ module _ (f : Format) (four : getD (f .widths) 2 0 ≡ 4) where
     link-never : (nodes : ℕ) (got : List Link) (bs : Bytes) → Weighed got bs → Never 11 (nextLink f nodes got bs)
     unfolding linkRecord shapeChecks valueChecks firstFailing
     link-never nodes got bs p =
-        let start : Bool = eqb (length got) 0 in
         let before : Link = getD got (length got - 1) noLink in
         let l : Link = linkIn f before bs in
         let w : l .weight < 2 ^ 32 = weight-below before bs (last-below got (p .0)) (p .1) in
-        let xs : List Check = shapeChecks f start bs ++ check 10 (leb nodes (l .first) || leb nodes (l .second) || eqb (l .first) (l .second)) ∷ [] in
+        let xs : List Check = shapeChecks f (eqb (length got) 0) bs ++ check 10 (leb nodes (l .first) || leb nodes (l .second) || eqb (l .first) (l .second)) ∷ [] in
+        let ys : List Check = check 11 (ltb (f .weightLimit) (l .weight)) ∷ [] in
         let r : Reading Link = accepted l (drop (recordLength f bs) bs) in
-        let h : Never 11 (unless (firstFailing (check 11 (ltb (f .weightLimit) (l .weight)) ∷ [])) r) =
-        rw (le-ltb (f .weightLimit) (l .weight) (omega arith)) (λ e. omega arith) in
-        λ e. unless-never xs _ refl h (sym (ap numberOf (unless-append xs (check 11 (ltb (f .weightLimit) (l .weight)) ∷ []) r refl)) ∙ e)
-
-    header-never : (sheet : Bytes) → Never 11 (headerRecord sheet)
-    unfolding headerRecord countChecks
-    header-never sheet = unless-never (check 3 (ltb (length sheet) 5) ∷ countChecks (countsIn sheet)) (accepted (countsIn sheet) (drop 5 sheet)) refl (λ e. omega arith)
+        let h : Never 11 (unless (firstFailing ys) r) = rw (le-ltb (f .weightLimit) (l .weight) (omega arith)) tt in
+        subst (Never 11) (sym (unless-append xs ys r refl)) (unless-never 11 xs _ refl h)
 
     -- refusal 11 does not occur
-    pub decode-never : (sheet : Bytes) → ByteSized sheet → Never 11 (decode f sheet)
-    unfolding decode decodeBody
-    decode-never sheet h =
-        andThen-never (headerRecord sheet) (decodeBody f) (header-never sheet)
-        (λ c bs e. andThen-never (records (nextLink f (c .nodes)) (c .links) [] bs) (treesBehind c)
-        (records-never Weighed (nextLink f (c .nodes)) (omega arith) (link-never (c .nodes)) (link-weighed (c .nodes)) (c .links) [] bs
-        (λ i b. absurd (not-suc-le-zero b), subst ByteSized (headerRecord-rest sheet c bs e) (sized-drop 5 sheet h)))
-        (λ links rest _. treesBehind-never 11 (omega arith) (omega arith) c links rest))
+    pub decode-below : (sheet : Bytes) → ByteSized sheet → numberOf (decode f sheet) ≡ 11 → ⊥
+    decode-below sheet h =
+        never-number 11 (decode f sheet) (omega arith) (decode-never f 11 (λ _. omega arith) (omega arith) Weighed link-never link-weighed sheet (start sheet h))

@@ -10,20 +10,25 @@ use Rattle.cuts.proofs.LimitLaws.{side-fits, shares-fit}
 use Rattle.sheet.specs.Bytes.{Bytes, ByteSized}
 use Rattle.sheet.specs.Reading.{accepted, refused, numberOf}
 use Rattle.sheet.specs.Sheet.{base, current, decode}
-use Rattle.sheet.proofs.Sizes.{decode-light, decode-never}
+use Rattle.sheet.proofs.Sizes.{decode-light, decode-below}
+use Rattle.sheet.proofs.Agree.{Agree}
 use Rattle.sheet.proofs.Raised.{decode-raised}
+
+-- but for 11 their outcome is the one in force
+unchanged : (sheet : Bytes) → Agree 11 (decode base sheet) (decode current sheet)
+unchanged = decode-raised base (current .weightLimit) (current .sumWidth) (omega arith)
 
 -- "every sheet accepted before"
 pub accepted-before : (sheet : Bytes) (net : Network) (rest : Bytes) → decode base sheet ≡ accepted net rest → decode current sheet ≡ accepted net rest
-accepted-before sheet net rest e = decode-raised base (current .weightLimit) (current .sumWidth) (omega arith) sheet (λ q. omega (arith, sym (ap numberOf e) ∙ q)) ∙ e
+accepted-before sheet net rest e = unchanged sheet (λ q. omega (arith, sym (ap numberOf e) ∙ q)) ∙ e
 
 -- "a sheet refused before with a number other than 11 keeps it"
 pub refused-before : (sheet : Bytes) (n : ℕ) → decode base sheet ≡ refused n → (n ≡ 11 → ⊥) → decode current sheet ≡ refused n
-refused-before sheet n e other = decode-raised base (current .weightLimit) (current .sumWidth) (omega arith) sheet (λ q. other (sym (ap numberOf e) ∙ q)) ∙ e
+refused-before sheet n e other = unchanged sheet (λ q. other (sym (ap numberOf e) ∙ q)) ∙ e
 
 -- "number 11 no longer occurs in a sheet"
 pub never-11 : (sheet : Bytes) → ByteSized sheet → numberOf (decode current sheet) ≡ 11 → ⊥
-never-11 = decode-never current refl (omega arith)
+never-11 = decode-below current refl (omega arith)
 
 -- "Weights of sides and the floor become 8-byte numbers": these hold the weight of every side, and three times the shares
 pub sums-fit : (sheet : Bytes) → ByteSized sheet → (net : Network) (rest : Bytes) → decode current sheet ≡ accepted net rest

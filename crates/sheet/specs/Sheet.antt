@@ -54,7 +54,7 @@ base = record { widths = 2 ∷ 2 ∷ 4 ∷ []; weightLimit = 1_000_000; sumWidth
 
 -- "Every 4-byte weight is allowed. Weights of sides and the floor become 8-byte numbers"
 abbrev pub wide : Format
-wide = record { widths = 2 ∷ 2 ∷ 4 ∷ []; weightLimit = 4_294_967_295; sumWidth = 8 }
+wide = record { widths = base .widths; weightLimit = 4_294_967_295; sumWidth = 8 }
 
 abbrev pub current : Format
 current = wide

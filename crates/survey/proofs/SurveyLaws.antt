@@ -19,7 +19,8 @@ use Rattle.cuts.specs.Limits.{Light}
 use Rattle.cuts.specs.Candidate.{Candidate, candidate, candidatesFrom, candidates, lighter, noCandidate, sideOf}
 use Rattle.cuts.specs.Answer.{answer, judged}
 use Rattle.cuts.proofs.SumLaws.{sum-congr}
-use Rattle.cuts.proofs.CutLaws.{weightOf-is, cutWeight-most}
+use Rattle.cuts.proofs.CutLaws.{weightOf-is}
+use Rattle.cuts.proofs.LimitLaws.{side-most}
 use Rattle.cuts.proofs.Least.{firstFrom-firstOf, firstFrom-append}
 use Rattle.cuts.proofs.Handles.{candidate-of, candidate-in}
 use Rattle.cuts.proofs.Demands.{some-candidate}
@@ -63,8 +64,7 @@ unfolding lighter candidate
 lighter-unfound net l c m =
     let t : Tree = treeAt net (c .tree) in
     let e : c .weight ≡ cutWeight net (sideOf net t (c .handle)) = ap (λ (x : Candidate). x .weight) (candidate-of net c m .is) ∙ weightOf-is net t (c .handle) in
-    let w = cutWeight-most net 4_294_967_295 (λ k b. let s = l .small k b in omega arith) (sideOf net t (c .handle)) in
-    let few = l .few in
+    let w = side-most net l (sideOf net t (c .handle)) in
     lt-ltb (c .weight) 18_446_744_073_709_551_615 (omega arith)
 
 -- those of one tree, then those of the trees behind it

@@ -175,14 +175,13 @@ impl Judge {
             return Ok(());
         }
         self.as_sold += 1;
-        let same = match (&sold, expected) {
-            (Ok(_), Ok(_)) => sold == sheet::read(sheet),
-            (Err(sold), Err(refusal)) => sold == refusal,
-            _ => false,
+        let current = match expected {
+            Ok(_) => sheet::read(sheet),
+            Err(refusal) => Err(*refusal),
         };
-        match same {
+        match sold == current {
             true => Ok(()),
-            false => self.differs(sheet, format!("{sold:?}\n"), format!("{expected:?}\n")),
+            false => self.differs(sheet, format!("{sold:?}\n"), format!("{current:?}\n")),
         }
     }
 

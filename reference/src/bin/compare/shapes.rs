@@ -42,8 +42,8 @@ pub fn kind_name(kind: &[Shape]) -> String {
     }
 }
 
-/// Networks of every kind: so many small ones, some of each size, and large ones of few links for all weights; with the
-/// greatest sums; and a longest sheet.
+/// Networks of every kind: so many small ones, some of each size, large ones of few links for all weights, and one with the greatest
+/// sums; and a longest sheet.
 pub fn of_every_kind(judge: &mut Judge, random: &mut Random, small_networks: usize) -> Judged {
     for kind in kinds() {
         judge.kind(&kind_name(kind));
@@ -58,9 +58,6 @@ pub fn of_every_kind(judge: &mut Judge, random: &mut Random, small_networks: usi
             let size = few_links(random);
             of_kind(judge, random, kind, size, weights, Through::Both)?;
         }
-    }
-    for kind in kinds() {
-        judge.kind(&kind_name(kind));
         of_kind(judge, random, kind, HEAVIEST, (MOST_WEIGHT, MOST_WEIGHT), Through::Both)?;
     }
     of_kind(judge, random, &SHAPES, LONGEST, (1, 2), Through::Both)
