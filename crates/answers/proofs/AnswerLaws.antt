@@ -6,7 +6,7 @@ use lib.ListN.{drop}
 use Rattle.cuts.specs.Sums.{countTo}
 use Rattle.cuts.specs.Network.{flag}
 use Rattle.cuts.specs.Bound.{floor}
-use Rattle.cuts.specs.Answer.{answer, verdictOf}
+use Rattle.cuts.specs.Answer.{reported, answer, verdictOf}
 use Rattle.sheet.specs.Bytes.{Bytes}
 use Rattle.sheet.specs.Sheet.{Counts, treeIn}
 use Rattle.reader.specs.Answers.{treesFrom, networkAt}
@@ -22,7 +22,11 @@ module _ (s : Bytes) (ends : List (List ℕ)) (ws : List ℕ) (c : Counts) (at :
   unfolding answer
   count-is = refl
 
-  module _ {found : Found} (says : Says found (answer (networkAt s ends ws c at) .best)) where
+  module _ {found : Found} (says : Says found (reported (networkAt s ends ws c at))) where
+    pub says-best : Says found (answer (networkAt s ends ws c at) .best)
+    unfolding answer
+    says-best = says
+
     module _ {f : ℕ} (bound : f ≡ floor (networkAt s ends ws c at) (treesFrom (networkAt s ends ws c at) (c .trees) (drop at s)) (found .weight)) where
       pub floor-is : answer (networkAt s ends ws c at) .floor ≡ f
       unfolding answer

@@ -18,7 +18,7 @@ use Rattle.cuts.specs.Cut.{Side, Respects, Proper, Rootless, crosses, cu
 use Rattle.cuts.specs.Tree.{Spanning, Sound, memberCount}
 use Rattle.cuts.specs.Candidate.{Candidate, Handle, Fits, Earlier, Precedes, one, two, candidate, candidates, lighter, noCandidate, sideOf}
 use Rattle.cuts.specs.Bound.{load, shares, overloaded, floor}
-use Rattle.cuts.specs.Answer.{Answer, certified, treesOnly, verdictOf, judged, answer}
+use Rattle.cuts.specs.Answer.{Answer, certified, treesOnly, verdictOf, reported, judged, answer}
 use Rattle.cuts.specs.Demands.{Demand2, Demand3, Owed}
 use Rattle.cuts.proofs.FlagLaws.{clash, truth}
 use Rattle.cuts.proofs.SumLaws.{anyTo-some, anyTo-at, sum-congr, sum-add, sum-const, count-lacks, count-none, Last, count-last}
@@ -265,44 +265,49 @@ module _ (net : Network) (v : Sound net) where
 
   -- ---- the answer
 
-  chosen : Candidate
-  chosen = answer net .best
-
-  chosen-first : First lighter (candidates net) chosen
-  unfolding chosen answer judged
-  chosen-first = first-of (lighter-weighing .order) noCandidate (candidates net) (some-candidate .1)
-
-  pub answer-demand2 : Demand2 net (answer net)
-  unfolding chosen answer judged
-  answer-demand2 = candidate-agrees (answer net) (first-in chosen-first) refl
-
-  pub answer-demand3 : Demand3 net (answer net)
-  unfolding chosen answer judged
-  answer-demand3 = record {
-    proper = agrees-proper (answer net) answer-demand2;
-    respects = (chosen .tree, answer-demand2 .tree-listed, answer-demand2 .at-most-two);
-    own-weight = agrees-weight (answer net) answer-demand2;
-    lightest = light lighter-weighing chosen chosen-first;
-    floor-packed = floor-packed (chosen .weight);
-    floor-elsewhere = floor-elsewhere (chosen .weight);
-    floor-bounds = floor-least lighter-weighing chosen chosen-first (net .trees) (λ t m. m);
-    marked = verdict-tells (floor net (net .trees) (chosen .weight)) (chosen .weight);
-  }
+  pub reported-first : First lighter (candidates net) (reported net)
+  unfolding reported
+  reported-first = first-of (lighter-weighing .order) noCandidate (candidates net) (some-candidate .1)
 
   -- the reported candidate precedes every other
-  answer-precedes : (d : Candidate) → List·Memᴰ d (candidates net) → (d ≡ chosen) ⊎ Precedes chosen d
+  reported-precedes : (d : Candidate) → List·Memᴰ d (candidates net) → (d ≡ reported net) ⊎ Precedes (reported net) d
   unfolding lighter
-  answer-precedes d m = step (precedes lighter-weighing chosen chosen-first d m)
+  reported-precedes d m = step (precedes lighter-weighing (reported net) reported-first d m)
     where
-      step : (d ≡ chosen) ⊎ ((lighter chosen d ≡ true) ⊎ ((lighter d chosen ≡ false) × Earlier chosen d)) → (d ≡ chosen) ⊎ Precedes chosen d
+      step : (d ≡ reported net) ⊎ ((lighter (reported net) d ≡ true) ⊎ ((lighter d (reported net) ≡ false) × Earlier (reported net) d))
+          → (d ≡ reported net) ⊎ Precedes (reported net) d
       step (inl e) = inl e
       step (inr (inl e)) = inr (inl (ltb-true _ _ e))
       step (inr (inr e)) = inr (even (eq-or-lt-of-le (ltb-false _ _ (e .0))))
         where
-          even : (chosen .weight ≡ d .weight) ⊎ (chosen .weight < d .weight) → Precedes chosen d
+          even : (reported net .weight ≡ d .weight) ⊎ (reported net .weight < d .weight) → Precedes (reported net) d
           even (inl q) = inr (q, e .1)
           even (inr l) = inl l
 
+  pub answer-demand2 : Demand2 net (answer net)
+  unfolding answer judged
+  answer-demand2 = candidate-agrees (answer net) (first-in reported-first) refl
+
+  pub answer-demand3 : Demand3 net (answer net)
+  unfolding answer judged
+  answer-demand3 = record {
+    proper = agrees-proper (answer net) answer-demand2;
+    respects = (reported net .tree, answer-demand2 .tree-listed, answer-demand2 .at-most-two);
+    own-weight = agrees-weight (answer net) answer-demand2;
+    lightest = light lighter-weighing (reported net) reported-first;
+    floor-packed = floor-packed (reported net .weight);
+    floor-elsewhere = floor-elsewhere (reported net .weight);
+    floor-bounds = floor-least lighter-weighing (reported net) reported-first (net .trees) (λ t m. m);
+    marked = verdict-tells (floor net (net .trees) (reported net .weight)) (reported net .weight);
+  }
+
   pub answer-owed : Owed net (answer net)
-  unfolding chosen answer judged
-  answer-owed = record { demand2 = answer-demand2; demand3 = answer-demand3; rootless = agrees-rootless (answer net) answer-demand2; unmarked = verdict-else (answer net .floor) (chosen .weight); listed = first-in chosen-first; first = answer-precedes }
+  unfolding answer judged
+  answer-owed = record {
+    demand2 = answer-demand2;
+    demand3 = answer-demand3;
+    rootless = agrees-rootless (answer net) answer-demand2;
+    unmarked = verdict-else (answer net .floor) (reported net .weight);
+    listed = first-in reported-first;
+    first = reported-precedes;
+  }

@@ -3,8 +3,9 @@
 --   certified       verdict 2: the cut is a lightest one of the whole network. Document 01: whole
 --   treesOnly       verdict 1: it is a lightest one of those that 2-respect a listed tree. Document 01: trees only
 --   verdictOf f w   certified where floor and weight are equal
+--   reported net    the candidate that is reported: the first in document 01's order
 --   judged net c    the answer that reports the candidate c
---   answer net      the answer that reports the first candidate in document 01's order
+--   answer net      the answer that reports the first one
 use Prim.Native.Nat.{ℕ}
 use mathlib.Core.Bool.{cond}
 use lib.Dec.{eqb}
@@ -29,6 +30,10 @@ treesOnly = 1
 abbrev pub verdictOf : ℕ → ℕ → ℕ
 verdictOf f w = cond (eqb f w) certified treesOnly
 
+unfoldable pub reported : Network → Candidate
+unfolding firstOf candidates lighter
+reported net = firstOf lighter noCandidate (candidates net)
+
 unfoldable pub judged : Network → Candidate → Answer
 unfolding size floor
 judged net c =
@@ -36,5 +41,5 @@ judged net c =
     record { best = c; count = size net (c .side); floor = f; verdict = verdictOf f (c .weight) }
 
 unfoldable pub answer : Network → Answer
-unfolding judged firstOf candidates lighter
-answer net = judged net (firstOf lighter noCandidate (candidates net))
+unfolding judged reported
+answer net = judged net (reported net)

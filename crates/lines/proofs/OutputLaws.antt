@@ -11,7 +11,7 @@ use lib.Seq.{length-take-le, sets, sets-eq}
 use Rattle.cuts.specs.Sums.{select}
 use Rattle.cuts.specs.Network.{Network, flag}
 use Rattle.cuts.specs.Cut.{Side}
-use Rattle.cuts.specs.Answer.{Answer, answer}
+use Rattle.cuts.specs.Answer.{Answer, reported, answer}
 use Rattle.cuts.proofs.SumLaws.{table-at}
 use Rattle.cuts.proofs.Handles.{select-congr}
 use Rattle.sheet.specs.Bytes.{Bytes, number, fields, mapBit}
@@ -48,9 +48,9 @@ answerLines-put {old} {mid} {new} {p} {q} f fs side report e h k =
 -- read from the areas with a flag for each of the 256 bits, an answer prints as it does with a flag for each node
 answerLines-back : (f : Format) (net : Network) (side report : Bytes) → answerRead f (net .nodes) (sideAfter net side) (reportAfter f net report) ≡ answer net
     → answerLines (answerRead f 256 (sideAfter net side) (reportAfter f net report)) ≡ answerLines (answer net)
-unfolding answerLines answerRead sideRead sideBytes
+unfolding answer answerLines answerRead sideRead sideBytes
 answerLines-back f net side report back =
-    let test : ℕ → Bool = flag (answer net .best .side) in
+    let test : ℕ → Bool = flag (reported net .side) in
     let area : Bytes = sideAfter net side in
     ap₂ (λ (a : Answer) (ns : List Text). line answerWord (answerFields a) ++ line sideWord ns) back
     (sideFields-select (sideRead 256 area) test (λ k b. table-at false 256 (mapBit area) k b ∙ mapBit-table 32 test (drop 32 side) k (omega arith)))

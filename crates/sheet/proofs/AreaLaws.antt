@@ -131,6 +131,7 @@ module _ {f : Format} (net : Network) (v : Accepted f net) where
 
     -- what stands in the areas afterwards is the answer
     pub answer-back : (side report : Bytes) → answerRead f (net .nodes) (sideAfter net side) (reportAfter f net report) ≡ answer net
+    unfolding answer judged
     answer-back side report =
         let d2 = answer-demand2 net (v .sound) in
         answerRead-written f (net .nodes) (answer net) side report (answer-demand3 net (v .sound) .proper .sized) (v .nodes-most)

@@ -21,7 +21,7 @@ use Rattle.cuts.specs.Sums.{table}
 use Rattle.cuts.specs.Network.{Network, flag}
 use Rattle.cuts.specs.Cut.{Side}
 use Rattle.cuts.specs.Candidate.{Handle, one, two}
-use Rattle.cuts.specs.Answer.{Answer, answer}
+use Rattle.cuts.specs.Answer.{Answer, reported, answer}
 use Rattle.sheet.specs.Bytes.{Bytes, fields, fieldBytes, mapBit, byteOf}
 use Rattle.sheet.specs.Sheet.{Format}
 
@@ -59,7 +59,7 @@ abbrev pub written : Bytes → Bytes → Bytes
 written new old = new ++ drop (length new) old
 
 abbrev pub sideAfter : Network → Bytes → Bytes
-sideAfter net old = written (sideBytes (answer net .best .side)) old
+sideAfter net old = written (sideBytes (reported net .side)) old
 
 abbrev pub reportAfter : Format → Network → Bytes → Bytes
 reportAfter f net old = written (reportBytes f (answer net)) old

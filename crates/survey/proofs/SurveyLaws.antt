@@ -17,7 +17,7 @@ use Rattle.cuts.specs.Cut.{cutWeight}
 use Rattle.cuts.specs.Tree.{Sound}
 use Rattle.cuts.specs.Limits.{Light}
 use Rattle.cuts.specs.Candidate.{Candidate, candidate, candidatesFrom, candidates, lighter, noCandidate, sideOf}
-use Rattle.cuts.specs.Answer.{answer, judged}
+use Rattle.cuts.specs.Answer.{reported}
 use Rattle.cuts.proofs.SumLaws.{sum-congr}
 use Rattle.cuts.proofs.CutLaws.{weightOf-is}
 use Rattle.cuts.proofs.LimitLaws.{side-most}
@@ -73,16 +73,16 @@ candidatesFrom-drop : (net : Network) (i : ℕ) → i < length (net .trees)
 unfolding candidatesFrom
 candidatesFrom-drop net i b = rw (add-one i) (ap (candidatesFrom net i) (drop-cons (net .trees) i noTree b))
 
--- what is found was visited in the trees before i, and with those from i on leads to the answer
+-- what is found was visited in the trees before i, and with those from i on leads to the one that is reported
 pub record Visiting (net : Network) (best : Found) (i : ℕ) : Type 0 where
   pub so-far : Candidate
   pub says : Says best so-far
   pub visited : Visited net unfound i so-far
-  pub leads : firstFrom lighter so-far (candidatesFrom net i (drop i (net .trees))) ≡ answer net .best
+  pub leads : firstFrom lighter so-far (candidatesFrom net i (drop i (net .trees))) ≡ reported net
 
 module _ (net : Network) (sound : Sound net) (light : Light net) {best : Found} where
   pub trees-start : Says best unfound → Visiting net best 0
-  unfolding answer judged candidates
+  unfolding reported candidates
   trees-start h = record {
     so-far = unfound;
     says = h;
@@ -107,7 +107,7 @@ module _ (net : Network) (sound : Sound net) (light : Light net) {best : Found} 
         leads = sym (firstFrom-append lighter c xs ys) ∙ ap (firstFrom lighter c) (sym (candidatesFrom-drop net i b)) ∙ w .leads;
       }
 
-  pub trees-done : (i : ℕ) → i ≡ length (net .trees) → Visiting net best i → Says best (answer net .best)
+  pub trees-done : (i : ℕ) → i ≡ length (net .trees) → Visiting net best i → Says best (reported net)
   unfolding candidatesFrom firstFrom
   trees-done i e w =
       let none : drop i (net .trees) ≡ [] = ap (λ (k : ℕ). drop k (net .trees)) e ∙ drop-length (net .trees) in

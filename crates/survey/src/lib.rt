@@ -16,7 +16,7 @@ ghost use Rattle.cuts.specs.First.{firstFrom};
 ghost use Rattle.cuts.specs.Network.{Network, Tree, linkCount, treeAt};
 ghost use Rattle.cuts.specs.Tree.{Spanning};
 ghost use Rattle.cuts.specs.Candidate.{Candidate, Fits, lighter, sideOf};
-ghost use Rattle.cuts.specs.Answer.{answer};
+ghost use Rattle.cuts.specs.Answer.{reported};
 ghost use Rattle.trees.specs.Order.{part};
 ghost use Rattle.trees.specs.Growing.{Within, EndArrays, Held};
 ghost use Rattle.trees.specs.Marks.{marks};
@@ -87,7 +87,7 @@ fn search_listed(
     requires { ⌜ EndArrays (now ends) × (length (now weights) ≡ 2048) × (length (now lists) ≡ 4353) × (length (now degrees) ≡ 256)
         × Indexed (networkAt (now s) (now ends) (now weights) (countsOf c) at) (now ends) (now weights) (now lists) (c .nodes) (c .links)
         × Degrees (networkAt (now s) (now ends) (now weights) (countsOf c) at) (now degrees) ⌝ }
-    ensures { λ r. ⌜ Says r (answer (networkAt (now (s .entry)) (now (ends .entry)) (now (weights .entry)) (countsOf c) at) .best) ⌝ }
+    ensures { λ r. ⌜ Says r (reported (networkAt (now (s .entry)) (now (ends .entry)) (now (weights .entry)) (countsOf c) at)) ⌝ }
 {
     let trees = c.trees;
     let length = 4 + (c.links + 7) / 8;
@@ -125,7 +125,7 @@ pub fn search_trees(
 ) -> Found
     requires { ⌜ (at + c .trees * treeLength (c .links) ≤ length (now s)) × Accepted current (networkAt (now s) (now ends) (now weights) (countsOf c) at) ⌝ }
     requires { ⌜ EndArrays (now ends) × (length (now weights) ≡ 2048) ⌝ }
-    ensures { λ r. ⌜ Says r (answer (networkAt (now (s .entry)) (now (ends .entry)) (now (weights .entry)) (countsOf c) at) .best) ⌝ }
+    ensures { λ r. ⌜ Says r (reported (networkAt (now (s .entry)) (now (ends .entry)) (now (weights .entry)) (countsOf c) at)) ⌝ }
 {
     let nodes = c.nodes;
     let links = c.links;

@@ -14,8 +14,9 @@ use Rattle.cuts.proofs.Demands.{answer-demand2}
 use Rattle.trees.specs.Marks.{marks}
 use Rattle.records.specs.Answers.{countsOf}
 use Rattle.reader.specs.Answers.{treesFrom, networkAt}
+use Rattle.choice.specs.Choice.{Says}
 use Rattle.survey.proofs.NetworkLaws.{networkAt-links-most, networkAt-trees, networkAt-trees-most, networkAt-laid}
-use Rattle.answers.proofs.AnswerLaws.{count-is, floor-is, verdict-is}
+use Rattle.answers.proofs.AnswerLaws.{count-is, says-best, floor-is, verdict-is}
 use Rattle.answers.proofs.write_answer.Statement.{statement}
 use Rattle.answers.proofs.write_answer.Tie as tie
 
@@ -49,10 +50,13 @@ module _ (c : tie.After-search-trees) where
   agrees : Demand2 (net (start c)) (answer (net (start c)))
   agrees = answer-demand2 (net (start c)) (start c .pre .0 .1 .sound)
 
+  says : Says (c .search-trees .result) (answer (net (start c)) .best)
+  says = let a = start c .args in says-best (a .sheet .now) (a .ends .now) (a .weights .now) (countsOf (a .c)) (a .at) (c .search-trees .ensures)
+
   tree-listed : c .search-trees .result .tree < start c .args .c .trees
   tree-listed =
       let a = start c .args in
-      omega (arith, c .search-trees .ensures .tree, agrees .tree-listed, networkAt-trees (a .sheet .now) (a .ends .now) (a .weights .now) (countsOf (a .c)) (a .at))
+      omega (arith, says .tree, agrees .tree-listed, networkAt-trees (a .sheet .now) (a .ends .now) (a .weights .now) (countsOf (a .c)) (a .at))
 
 mark-found-requires : tie.Need-mark-found-requires
 mark-found-requires c κs =
@@ -75,14 +79,11 @@ marked-here : (c : tie.After-mark-found) → c .mark-found .last .0 ≡ marks (a
 marked-here c =
     let s = bounded c .before in
     let n = net (start s) in
-    let best = answer n .best in
-    let found = s .search-trees .result in
-    let says = s .search-trees .ensures in
     let d = agrees s in
-    let t : Tree = treeAt n (best .tree) in
-    let fits = subst (Fits n t) (sym (says .handle)) (d .links-fit) in
-    c .mark-found .ensures (start s .args .weights .now) t (start s .pre .0 .1) (ap (treeAt n) (sym (says .tree))) fits
-    ∙ ap (λ (h : Handle). marks (sideOf n t h)) (says .handle) ∙ ap marks (sym (d .side-is))
+    let t : Tree = treeAt n (answer n .best .tree) in
+    let fits = subst (Fits n t) (sym (says s .handle)) (d .links-fit) in
+    c .mark-found .ensures (start s .args .weights .now) t (start s .pre .0 .1) (ap (treeAt n) (sym (says s .tree))) fits
+    ∙ ap (λ (h : Handle). marks (sideOf n t h)) (says s .handle) ∙ ap marks (sym (d .side-is))
 
 write-areas-requires : tie.Need-write-areas-requires
 write-areas-requires c κs =
@@ -97,16 +98,17 @@ same-length-2 : tie.Need-same-length-2
 same-length-2 c = search needs
 
 returns : tie.Need-returns
+unfolding answer
 returns c =
     let w = c .before .before .before .before in
     let m = w .before .before .before .before .before in
     let b = bounded m in
     let a = start (b .before) .args in
-    let says = b .before .search-trees .ensures in
-    w .write-areas .ensures (answer (net (start (b .before)))) says (marked-here m)
+    let found = b .before .search-trees .ensures in
+    w .write-areas .ensures (answer (net (start (b .before)))) (says (b .before)) (marked-here m)
     (count-is (a .sheet .now) (a .ends .now) (a .weights .now) (countsOf (a .c)) (a .at))
-    (floor-is (a .sheet .now) (a .ends .now) (a .weights .now) (countsOf (a .c)) (a .at) says (floor-here b))
-    (verdict-is (a .sheet .now) (a .ends .now) (a .weights .now) (countsOf (a .c)) (a .at) says (floor-here b))
+    (floor-is (a .sheet .now) (a .ends .now) (a .weights .now) (countsOf (a .c)) (a .at) found (floor-here b))
+    (verdict-is (a .sheet .now) (a .ends .now) (a .weights .now) (countsOf (a .c)) (a .at) found (floor-here b))
 
 pub write-answer-spec : {M : Type 1} → statement M
 write-answer-spec =
