@@ -1,6 +1,6 @@
 //! What is answered: the candidate found, its floor and verdict, and the bytes of both areas.
 
-use crate::read::{bit_set, Sheet};
+use crate::read::{bit_set, Link, Record, Sheet};
 use reference::report::{REPORT_BYTES, SIDE_BYTES};
 
 const NO_SECOND: u16 = 65535;
@@ -38,25 +38,34 @@ pub fn accepted(sheet: &Sheet, found: &Found) -> Outcome {
     outcome
 }
 
+/// The lesser of the weight and three times the shares of the trees that count, the longest run from tree 0 on that overloads no
+/// link.
 fn floor(sheet: &Sheet, weight: u64) -> u64 {
-    let loads = loads(sheet);
-    if sheet.links.iter().zip(&loads).any(|(l, &load)| load > l.weight as u64) {
-        return 0;
+    let mut loads = vec![0; sheet.links.len()];
+    let mut shares = 0;
+    for tree in &sheet.trees {
+        if !fits(&sheet.links, &loads, tree) {
+            break;
+        }
+        add_share(&mut loads, tree);
+        shares += tree.share as u64;
     }
-    let shares: u64 = sheet.trees.iter().map(|tree| tree.share as u64).sum();
     weight.min(3 * shares)
 }
 
-fn loads(sheet: &Sheet) -> Vec<u64> {
-    let mut loads = vec![0; sheet.links.len()];
-    for tree in &sheet.trees {
-        for (k, load) in loads.iter_mut().enumerate() {
-            if bit_set(tree.map, k) {
-                *load += tree.share as u64;
-            }
+/// Whether a tree's share fits all its members; no load is above its link's weight.
+fn fits(links: &[Link], loads: &[u32], tree: &Record) -> bool {
+    let spare = links.iter().zip(loads).map(|(l, load)| l.weight - load);
+    spare.enumerate().all(|(k, spare)| !bit_set(tree.map, k) || tree.share <= spare)
+}
+
+/// Adds a tree's share to its members' loads.
+fn add_share(loads: &mut [u32], tree: &Record) {
+    for (k, load) in loads.iter_mut().enumerate() {
+        if bit_set(tree.map, k) {
+            *load += tree.share;
         }
     }
-    loads
 }
 
 fn write_side(area: &mut [u8], side: &[u8]) {

@@ -99,10 +99,19 @@ fn lightest(network: &Network) -> (Candidate, Vec<usize>) {
     (candidate, (0..network.nodes).filter(|&node| inside[node]).collect())
 }
 
-/// The load of each link.
-pub fn loads(network: &Network) -> Vec<u64> {
-    let mut loads = vec![0; network.links.len()];
-    for tree in &network.trees {
+/// Which trees count: the floor is made of their shares.
+#[derive(Clone, Copy, Debug, PartialEq, Eq)]
+pub enum Counting {
+    /// All, or none where all together overload a link: document 01's rule, of units already sold.
+    AllOrNone,
+    /// The longest run from tree 0 on that overloads no link: the rule in force.
+    LongestRun,
+}
+
+/// The load of each link by the trees given.
+pub fn loads(links: &[Link], trees: &[Tree]) -> Vec<u64> {
+    let mut loads = vec![0; links.len()];
+    for tree in trees {
         for &member in &tree.members {
             loads[member] += tree.share;
         }
@@ -110,27 +119,71 @@ pub fn loads(network: &Network) -> Vec<u64> {
     loads
 }
 
-/// Three times the sum of all shares.
-pub fn three_shares(network: &Network) -> u64 {
-    3 * network.trees.iter().map(|tree| tree.share).sum::<u64>()
-}
-
-/// Whether a load exceeds its link's weight.
+/// Whether all trees together load a link past its weight.
 pub fn overloaded(network: &Network) -> bool {
-    loads(network).iter().zip(&network.links).any(|(&load, link)| load > link.weight)
+    let loads = loads(&network.links, &network.trees);
+    loads.iter().zip(&network.links).any(|(&load, link)| load > link.weight)
 }
 
-/// The answer of a sound network.
-pub fn answer(network: &Network) -> Answer {
-    let (candidate, side) = lightest(network);
-    let floor = if overloaded(network) { 0 } else { candidate.weight.min(three_shares(network)) };
+/// How many trees from tree 0 on a link bears: all before the first that brings its load past its weight.
+fn borne(network: &Network, link: usize) -> usize {
+    let mut load = 0;
+    let passes = |tree: &Tree| {
+        load += if tree.members.contains(&link) { tree.share } else { 0 };
+        load > network.links[link].weight
+    };
+    network.trees.iter().position(passes).unwrap_or(network.trees.len())
+}
+
+/// How many trees the longest run from tree 0 on has that overloads no link: as many as every link bears.
+pub fn longest_run(network: &Network) -> usize {
+    (0..network.links.len()).map(|link| borne(network, link)).min().unwrap_or(network.trees.len())
+}
+
+/// The trees that count by that rule, from tree 0 on.
+pub fn counted(counting: Counting, network: &Network) -> &[Tree] {
+    let count = match counting {
+        Counting::AllOrNone if overloaded(network) => 0,
+        Counting::AllOrNone => network.trees.len(),
+        Counting::LongestRun => longest_run(network),
+    };
+    &network.trees[..count]
+}
+
+/// Three times the sum of the trees' shares.
+pub fn three_shares(trees: &[Tree]) -> u64 {
+    3 * trees.iter().map(|tree| tree.share).sum::<u64>()
+}
+
+/// The answer with that candidate and side; floor and verdict are by the rule.
+fn with_floor(counting: Counting, network: &Network, candidate: Candidate, side: Vec<usize>) -> Answer {
+    let floor = candidate.weight.min(three_shares(counted(counting, network)));
     let verdict = if floor == candidate.weight { WHOLE } else { TREES_ONLY };
     Answer { verdict, floor, candidate, side }
+}
+
+/// The answer of a sound network by that rule.
+pub fn answer_by(counting: Counting, network: &Network) -> Answer {
+    let (candidate, side) = lightest(network);
+    with_floor(counting, network, candidate, side)
+}
+
+/// The answer of a sound network by the rule in force.
+pub fn answer(network: &Network) -> Answer {
+    answer_by(Counting::LongestRun, network)
+}
+
+impl Answer {
+    /// The network's answer by that rule, without another search: candidate and side are this answer's.
+    pub fn by(&self, counting: Counting, network: &Network) -> Answer {
+        with_floor(counting, network, self.candidate, self.side.clone())
+    }
 }
 
 #[cfg(test)]
 mod tests {
     use super::*;
+    use crate::documented;
 
     #[test]
     fn a_single_link_stands_before_a_pair_and_after_a_pair_of_a_lower_first_link() {
@@ -140,5 +193,28 @@ mod tests {
         assert!(candidate(3, Some(4)) < candidate(3, Some(5)));
         assert!(candidate(9, None) < Candidate { weight: 5, tree: 2, first: 0, second: None });
         assert!(Candidate { weight: 4, tree: 9, first: 9, second: Some(10) } < candidate(0, None));
+    }
+
+    /// How many trees count by either rule. The trees have one link each, of weight 4 or 20.
+    fn counts(trees: &[(u64, &[usize])]) -> (usize, usize) {
+        let network = documented::network(2, &[(0, 1, 4), (0, 1, 20)], trees);
+        let count = |counting| counted(counting, &network).len();
+        (count(Counting::AllOrNone), count(Counting::LongestRun))
+    }
+
+    #[test]
+    fn trees_count_up_to_the_first_that_overloads_a_link() {
+        assert_eq!(counts(&[(5, &[0])]), (0, 0));
+        assert_eq!(counts(&[(5, &[0]), (1, &[0]), (1, &[1])]), (0, 0));
+        assert_eq!(counts(&[(0, &[0]), (21, &[1])]), (0, 1));
+        assert_eq!(counts(&[(2, &[0]), (2, &[0]), (1, &[0])]), (0, 2));
+        assert_eq!(counts(&[(2, &[0]), (20, &[1]), (3, &[0]), (0, &[0]), (0, &[1])]), (0, 2));
+    }
+
+    #[test]
+    fn all_trees_count_where_they_overload_no_link() {
+        assert_eq!(counts(&[(4, &[0])]), (1, 1));
+        assert_eq!(counts(&[(2, &[0]), (2, &[0])]), (2, 2));
+        assert_eq!(counts(&[(4, &[0]), (0, &[0]), (20, &[1])]), (3, 3));
     }
 }

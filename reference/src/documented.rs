@@ -1,5 +1,5 @@
-//! Document 01's networks, starred or not, and the limits of documents 01 and 02. The lines of each stand in the documents or were
-//! reckoned by hand from their words.
+//! Document 01's networks, starred or not, the limits of documents 01 and 02, and networks for request F-3. The lines of each stand
+//! in the documents or were reckoned by hand from their words.
 
 use crate::network::{Link, Network, Tree};
 use crate::sheet;
@@ -35,6 +35,11 @@ fn documented(name: &str, sheet: Vec<u8>, lines: &str) -> Documented {
 
 /// All of them, case A first.
 pub fn all() -> Vec<Documented> {
+    [of_document_01(), shares_of_two_trees(), runs_of_trees(), wide_runs()].into_iter().flatten().collect()
+}
+
+/// Document 01's networks and limits, with those of request F-2. By either rule for the trees that count, they have the same lines.
+pub fn of_document_01() -> Vec<Documented> {
     [starred(), shares_of_one_link(), other_cases(), node_limits(), link_limits(), tree_limits()]
         .into_iter()
         .flatten()
@@ -175,6 +180,58 @@ fn tree_limits() -> Vec<Documented> {
         documented("a floor of weights of a million, whole", greatest_floor_sheet(96, 1_000_000), million_whole),
         documented("the greatest floor", greatest_floor_sheet(2048, 4_294_967_295), floor),
         documented("the greatest floor, whole", greatest_floor_sheet(96, 4_294_967_295), whole),
+    ]
+}
+
+/// Request F-3's network: network H with two trees.
+fn shares_of_two_trees() -> Vec<Documented> {
+    let case = |name: &str, shares: [u64; 2], lines: &str| {
+        let trees: Vec<(u64, &[usize])> = shares.iter().map(|&share| (share, &[0][..])).collect();
+        documented(name, sheet::write(&network(2, &[(0, 1, 4)], &trees)), lines)
+    };
+    vec![
+        case("H, shares 2 and 3", [2, 3], "answer 2 4 4 0 0 - 1\nside 1\n"),
+        case("H, shares 5 and 1", [5, 1], "answer 1 4 0 0 0 - 1\nside 1\n"),
+    ]
+}
+
+/// Networks in which a tree that would overload a link ends the run of those that count.
+fn runs_of_trees() -> Vec<Documented> {
+    let parallel = |name: &str, weights: [u64; 2], trees: &[(u64, &[usize])], lines: &str| {
+        let links = weights.map(|weight| (0, 1, weight));
+        documented(name, sheet::write(&network(2, &links, trees)), lines)
+    };
+    let hidden = [(0, 1, 1), (1, 2, 1), (2, 3, 1), (0, 2, 10), (1, 3, 10)];
+    let shows = network(4, &hidden, &[(1, &[0, 1, 2]), (5, &[0, 3, 4])]);
+    let at_weight: [(u64, &[usize]); 3] = [(2, &[0]), (3, &[0]), (1, &[0])];
+    let none: [(u64, &[usize]); 2] = [(5, &[0]), (1, &[1])];
+    let behind: [(u64, &[usize]); 4] = [(2, &[0]), (3, &[0]), (0, &[1]), (5, &[1])];
+    let last: Vec<(u64, &[usize])> = vec![(1, &[0]); sheet::MOST_TREES];
+    vec![
+        // loads 2, 5 and 6 on the link of weight 5: trees 0 and 1 count, 3 x (2 + 3) is below 5 + 20
+        parallel("a load at the weight, then one more", [5, 20], &at_weight, "answer 1 25 15 0 0 - 1\nside 1\n"),
+        // load 5 on weight 4: no tree counts, though tree 1 alone loads the other link with 1 of 20
+        parallel("tree 0 overloads a link", [4, 20], &none, "answer 1 24 0 0 0 - 1\nside 1\n"),
+        // loads 2 and 5 on weight 4: tree 0 counts, 3 x 2, and not tree 3, which alone loads the other link with 5 of 20
+        parallel("trees behind the run that would fit", [4, 20], &behind, "answer 1 24 6 0 0 - 1\nside 1\n"),
+        // 32 on weight 31: the first 31 trees count, 3 x 31 is below 31 + 100
+        parallel("the last of 32 trees overloads a link", [31, 100], &last, "answer 1 131 93 0 0 - 1\nside 1\n"),
+        // network F, and tree 1, which crosses the side of 1 and 3 once, would load link 0 with 6 of 1: 3 x 1 is the side's weight
+        documented("F with a tree that does not count", sheet::write(&shows), "answer 2 3 3 1 0 - 2\nside 1 3\n"),
+    ]
+}
+
+/// Two trees of one link of parallel ones, its weight and both shares the greatest there are: tree 0 loads it to its weight.
+fn wide_runs() -> Vec<Documented> {
+    let greatest = sheet::MOST_WEIGHT;
+    let trees: [(u64, &[usize]); 2] = [(greatest, &[0]); 2];
+    let sheet = |links: usize| sheet::write(&network(2, &vec![(0, 1, greatest); links], &trees));
+    // 3 x 4,294,967,295 is above the weight of one link and below that of eight
+    let one_link = "answer 2 4294967295 4294967295 0 0 - 1\nside 1\n";
+    let eight_links = "answer 1 34359738360 12884901885 0 0 - 1\nside 1\n";
+    vec![
+        documented("shares of 4,294,967,295, one link", sheet(1), one_link),
+        documented("shares of 4,294,967,295, eight links", sheet(8), eight_links),
     ]
 }
 

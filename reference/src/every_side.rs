@@ -50,22 +50,33 @@ fn shown(network: &Network) -> Vec<Shown> {
     shown
 }
 
-/// The floor that document 01 has for a reported weight.
-fn floor(network: &Network, weight: u64) -> u64 {
-    let add = |sum: u128, tree: &Tree| sum + u128::from(tree.share);
-    for (number, link) in network.links.iter().enumerate() {
-        let holders = network.trees.iter();
-        let load = holders.filter(|tree| tree.members.contains(&number)).fold(0, add);
-        if load > u128::from(link.weight) {
-            return 0;
-        }
-    }
-    let three_shares = 3 * network.trees.iter().fold(0, add);
+fn shares<'a>(trees: impl Iterator<Item = &'a Tree>) -> u128 {
+    trees.map(|tree| u128::from(tree.share)).sum()
+}
+
+/// Whether these trees alone load a link past its weight.
+fn overload(network: &Network, trees: &[Tree]) -> bool {
+    let load = |link: usize| shares(trees.iter().filter(|tree| tree.members.contains(&link)));
+    (0..network.links.len()).any(|link| load(link) > u128::from(network.links[link].weight))
+}
+
+/// The lesser of a reported weight and three times the shares of the trees.
+fn floor_of(trees: &[Tree], weight: u64) -> u64 {
+    let three_shares = 3 * shares(trees.iter());
     if three_shares < u128::from(weight) {
         three_shares as u64
     } else {
         weight
     }
+}
+
+/// The floor that request F-3 has for a reported weight. Runs from tree 0 on are tried from all trees down.
+fn floor(network: &Network, weight: u64) -> u64 {
+    let mut run = &network.trees[..];
+    while overload(network, run) {
+        run = &run[..run.len() - 1];
+    }
+    floor_of(run, weight)
 }
 
 /// The answer of a sound network of at most [`MOST_NODES`] nodes.
@@ -85,7 +96,7 @@ fn require(holds: bool, otherwise: &str) -> Result<(), String> {
     }
 }
 
-/// Demand 3 of a reported answer, by every side of the whole network; the error says what does not hold.
+/// Demand 3 of a reported answer with request F-3's floor, by every side of the whole network; the error says what does not hold.
 pub fn check_demand(network: &Network, answer: &Answer) -> Result<(), String> {
     check_reported(network, answer)?;
     let shows = |tree: &Tree, side: u32| crossing_members(network, tree, side).len() <= 2;
@@ -107,7 +118,6 @@ fn check_reported(network: &Network, answer: &Answer) -> Result<(), String> {
     let links: Vec<usize> = [candidate.first].into_iter().chain(candidate.second).collect();
     let side = answer.side.iter().fold(0, |side, &node| side | 1 << node);
     let crossed = crossing_members(network, tree, side);
-    let owed_floor = floor(network, candidate.weight);
     let owed_verdict = match candidate.weight == answer.floor {
         true => WHOLE,
         false => TREES_ONLY,
@@ -116,8 +126,23 @@ fn check_reported(network: &Network, answer: &Answer) -> Result<(), String> {
     require(side & 1 == 0, "the side holds node 0")?;
     require(weigh(network, side) == candidate.weight, "the weight")?;
     require(crossed == links, "the side crosses other members")?;
-    require(answer.floor == owed_floor, "the floor")?;
+    check_floor(network, answer)?;
     require(answer.verdict == owed_verdict, "the verdict")
+}
+
+/// The reported floor is that of the trees that count: a run from tree 0 on that overloads no link, and it is all trees or one tree
+/// more overloads a link. Loads only grow with a run, so one run alone is such.
+fn check_floor(network: &Network, answer: &Answer) -> Result<(), String> {
+    let trees = &network.trees;
+    let counts = |&run: &usize| {
+        let fits = !overload(network, &trees[..run]);
+        fits && (run == trees.len() || overload(network, &trees[..run + 1]))
+    };
+    let runs: Vec<usize> = (0..=trees.len()).filter(counts).collect();
+    let [run] = runs[..] else {
+        return Err("the trees that count are not one run".to_string());
+    };
+    require(answer.floor == floor_of(&trees[..run], answer.candidate.weight), "the floor")
 }
 
 /// The members on the tree path between two nodes; none if the tree does not join them.
@@ -237,6 +262,41 @@ mod tests {
             change(&mut wrong);
             assert!(check_demand(&network, &wrong).is_err(), "{wrong:?}");
         }
+    }
+
+    /// A network of two parallel links and its right answer. Trees 0 and 1 load link 0 to its weight, tree 2 would overload it, and
+    /// tree 3 holds link 1: the floor is three times 2 and 2. Three times all shares is below the weight too.
+    fn run_of_two() -> (Network, Answer) {
+        let trees: [(u64, &[usize]); 4] = [(2, &[0]), (2, &[0]), (1, &[0]), (3, &[1])];
+        let network = documented::network(2, &[(0, 1, 4), (0, 1, 36)], &trees);
+        let candidate = Candidate { weight: 40, tree: 0, first: 0, second: None };
+        (network, Answer { verdict: TREES_ONLY, floor: 12, candidate, side: vec![1] })
+    }
+
+    #[test]
+    fn the_floor_is_that_of_the_longest_run() {
+        let (network, right) = run_of_two();
+        assert_eq!(answer(&network), right);
+        assert_eq!(check_demand(&network, &right), Ok(()));
+        let all_shares = 24;
+        let one_tree_more = 15;
+        let the_later_tree_too = 21;
+        let one_tree_fewer = 6;
+        let of_units_already_sold = 0;
+        for floor in [all_shares, one_tree_more, the_later_tree_too, one_tree_fewer, of_units_already_sold] {
+            let wrong = Answer { floor, ..right.clone() };
+            assert_eq!(check_demand(&network, &wrong), Err("the floor".to_string()), "{floor}");
+        }
+    }
+
+    #[test]
+    fn no_tree_counts_if_the_first_overloads_a_link() {
+        let (mut network, right) = run_of_two();
+        network.trees[0].share = 5;
+        let none = Answer { floor: 0, ..right.clone() };
+        assert_eq!(answer(&network), none);
+        assert_eq!(check_demand(&network, &none), Ok(()));
+        assert_eq!(check_demand(&network, &right), Err("the floor".to_string()));
     }
 
     #[test]

@@ -142,6 +142,10 @@ fn contradiction(network: &Network, answer: &Answer) -> Option<&'static str> {
     if !whole && !trees_only {
         return Some("verdict, weight and floor do not go together");
     }
+    let counted = run_end(network).map_or(&network.trees[..], |end| &network.trees[..end.tree]);
+    if *floor != candidate.weight.min(cuts::three_shares(counted)) {
+        return Some("the trees that count give another floor");
+    }
     None
 }
 
@@ -160,34 +164,64 @@ pub fn sentence(network: &Network, answer: &Answer) -> Result<String, &'static s
         _ => format!("the links that it crosses weigh {weight} together"),
     };
     let severed = node_list(&answer.side);
-    Ok(format!("{names}: it severs {severed} from node 0, and {weighs}. {}", promise(network, answer)?))
+    Ok(format!("{names}: it severs {severed} from node 0, and {weighs}. {}", promise(network, answer)))
 }
 
 /// What the answer promises about all cuts of the network.
-fn promise(network: &Network, answer: &Answer) -> Result<String, &'static str> {
+fn promise(network: &Network, answer: &Answer) -> String {
     if answer.verdict == cuts::WHOLE {
-        return Ok("No cut of the whole network weighs less.".to_string());
+        return "No cut of the whole network weighs less.".to_string();
     }
     let lightest = "No cut that the listed trees show is lighter";
-    if answer.floor > 0 {
-        let rest = "the whole network may hold one, but none that weighs less than";
-        return Ok(format!("{lightest}; {rest} {}.", answer.floor));
+    let rest = "the whole network may hold one, but none that weighs less than";
+    let unknown = "nothing is known of the cuts that no tree shows";
+    match (answer.floor, run_end(network)) {
+        (0, None) => format!("{lightest}. All shares are 0, so {unknown}."),
+        (0, Some(end)) => {
+            let and = match end.tree {
+                0 => " and",
+                1 => "; its share is 0, and",
+                _ => "; their shares are 0, and",
+            };
+            format!("{lightest}. {}{and} {unknown}.", end.reason(network))
+        }
+        (floor, None) => format!("{lightest}; {rest} {floor}."),
+        (floor, Some(end)) => format!("{lightest}; {rest} {floor}. {}.", end.reason(network)),
     }
-    let reason = if let Some((link, load)) = first_overload(network) {
-        let weight = network.links[link].weight;
-        format!("The shares of the trees that hold link {link} are {load} together, more than its weight of {weight}")
-    } else if network.trees.iter().all(|tree| tree.share == 0) {
-        "All shares are 0".to_string()
-    } else {
-        return Err("the floor is 0 without a reason");
-    };
-    Ok(format!("{lightest}. {reason}, so nothing is known of the cuts that no tree shows."))
 }
 
-/// The first link whose load exceeds its weight, and its load.
-fn first_overload(network: &Network) -> Option<(usize, u64)> {
-    let mut loads = cuts::loads(network).into_iter().enumerate();
-    loads.find(|&(link, load)| load > network.links[link].weight)
+/// The first tree that, with those before it, overloads a link: the trees before it are those that count. Of its overloaded links the
+/// first is named, with the load that it would have.
+struct RunEnd {
+    tree: usize,
+    link: usize,
+    load: u64,
+}
+
+/// Where the trees that count end; none if all count.
+fn run_end(network: &Network) -> Option<RunEnd> {
+    (0..network.trees.len()).find_map(|tree| {
+        let mut loads = cuts::loads(&network.links, &network.trees[..=tree]).into_iter().enumerate();
+        let (link, load) = loads.find(|&(link, load)| load > network.links[link].weight)?;
+        Some(RunEnd { tree, link, load })
+    })
+}
+
+impl RunEnd {
+    /// Why the tree does not count, and which do, as a sentence without its full stop.
+    fn reason(&self, network: &Network) -> String {
+        let RunEnd { tree, link, load } = self;
+        let weight = network.links[*link].weight;
+        let counted = match tree {
+            0 => "no tree counts".to_string(),
+            1 => "only tree 0 counts".to_string(),
+            2 => "only trees 0 and 1 count".to_string(),
+            _ => format!("only trees 0 to {} count", tree - 1),
+        };
+        format!(
+            "Tree {tree} would bring the load of link {link} to {load}, more than its weight of {weight}, so {counted}"
+        )
+    }
 }
 
 /// `node 1`, `nodes 1 and 2`, and for many nodes the first ones and how many more there are.

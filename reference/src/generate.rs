@@ -1,5 +1,7 @@
 //! Sound random networks of a given size, each with a feature that makes its answer hard to reckon.
 
+mod runs;
+
 use crate::cuts;
 use crate::network::{joining, Link, Network, Tree};
 use crate::random::Random;
@@ -33,9 +35,9 @@ pub enum Feature {
     EqualTrees,
     /// No load exceeds its link's weight, and some equal it.
     LoadAtWeight,
-    /// One load is its link's weight and 1.
+    /// By all trees together one load is its link's weight and 1.
     LoadAboveWeight,
-    /// Three times the shares is the lightest weight, 1 less or 1 more.
+    /// Three times the shares of the trees that count, all or some, is the lightest weight, 1 less or 1 more.
     SharesAtWeight,
     /// Shares whose sums need more than 32 bits, some with a small remainder of 32 bits.
     WideSums,
@@ -43,11 +45,17 @@ pub enum Feature {
     HeavyLinks,
     /// A light side that the first trees do not show and a later one does. It takes at least [`LATER_TREE_SIZE`].
     LaterTree,
+    /// The first, a middle or the last tree ends the run of those that count, most often with a load one above its link's weight.
+    RunEnds,
+    /// The same with weights and shares up to the greatest.
+    WideRun,
 }
 
 const LATER_TREE_SIZE: Size = Size::new(4, 5, 2);
+/// The least with a middle tree.
+const RUN_SIZE: Size = Size::new(2, 1, 3);
 
-pub const FEATURES: [Feature; 11] = [
+pub const FEATURES: [Feature; 13] = [
     Feature::Any,
     Feature::Ties,
     Feature::WeightZero,
@@ -59,6 +67,8 @@ pub const FEATURES: [Feature; 11] = [
     Feature::WideSums,
     Feature::HeavyLinks,
     Feature::LaterTree,
+    Feature::RunEnds,
+    Feature::WideRun,
 ];
 
 impl Feature {
@@ -75,6 +85,8 @@ impl Feature {
             Feature::WideSums => "sums of more than 32 bits",
             Feature::HeavyLinks => "heavy links",
             Feature::LaterTree => "a later tree shows the lightest",
+            Feature::RunEnds => "a tree ends the run",
+            Feature::WideRun => "a tree ends the run, wide shares",
         }
     }
 }
@@ -83,6 +95,7 @@ impl Feature {
 pub fn random_size(random: &mut Random, least_nodes: usize, most_nodes: usize, feature: Feature) -> Size {
     let least = match feature {
         Feature::LaterTree => LATER_TREE_SIZE,
+        Feature::RunEnds | Feature::WideRun => RUN_SIZE,
         _ => Size::new(2, 1, 1),
     };
     let nodes = random.between(least_nodes.max(least.nodes), most_nodes);
@@ -117,6 +130,7 @@ pub fn network(random: &mut Random, size: Size, feature: Feature) -> Network {
             overload_one(random, &mut network);
         }
         Feature::SharesAtWeight => fit_shares(random, &mut network),
+        Feature::RunEnds | Feature::WideRun => runs::end_run(random, &mut network),
         _ => {}
     }
     network
@@ -251,6 +265,8 @@ fn set_weights(random: &mut Random, network: &mut Network, feature: Feature) {
             random.pick(&[(2, 4), (10, 20), (1000, 2000), (most / 2, most)])
         }
         Feature::HeavyLinks => random.pick(&HEAVY_WEIGHTS),
+        Feature::RunEnds => random.pick(&[(0, 3), (5, 50), (1000, 2000)]),
+        Feature::WideRun => (MOST_WEIGHT - random.pick(&[0, 0, 2, MOST_WEIGHT / 2]), MOST_WEIGHT),
         _ => (0, random.pick(&[2, 5, 100])),
     };
     for link in &mut network.links {
@@ -284,13 +300,13 @@ fn set_shares(random: &mut Random, network: &mut Network, feature: Feature) {
 /// Gives all trees the same share, the greatest that loads no link more than the lightest bears.
 fn share_evenly(network: &mut Network) {
     network.trees.iter_mut().for_each(|tree| tree.share = 1);
-    let most_holders = cuts::loads(network).into_iter().max().unwrap_or(1);
+    let most_holders = cuts::loads(&network.links, &network.trees).into_iter().max().unwrap_or(1);
     let lightest = network.links.iter().map(|link| link.weight).min().unwrap_or(0);
     let share = lightest / most_holders;
     network.trees.iter_mut().for_each(|tree| tree.share = share);
 }
 
-/// Makes all trees equal, with shares whose sum is 2^32 and a little more, and weights above that little.
+/// Makes all trees equal, with shares whose sum is 2^32 and a little more, and weights that bear tree 0 and that little.
 fn wrap_shares(random: &mut Random, network: &mut Network) {
     let little = random.below(4) as u64;
     let members = network.trees[0].members.clone();
@@ -301,14 +317,14 @@ fn wrap_shares(random: &mut Random, network: &mut Network) {
     network.trees[0].share = first;
     network.trees[1].share = ((1 << 32) - first + little).min(u64::from(u32::MAX));
     for link in &mut network.links {
-        link.weight = link.weight.max(little);
+        link.weight = link.weight.max(first).max(little);
     }
 }
 
 /// Weights that no load exceeds; about half of the loads equal their link's weight.
 fn fit_weights(random: &mut Random, network: &mut Network) {
     let tight = random.pick(&network.trees[0].members);
-    for (link, load) in cuts::loads(network).into_iter().enumerate() {
+    for (link, load) in cuts::loads(&network.links, &network.trees).into_iter().enumerate() {
         let spare = if random.once_in(2) { random.below(20) as u64 } else { 0 };
         network.links[link].weight = load + if link == tight { 0 } else { spare };
     }
@@ -317,31 +333,38 @@ fn fit_weights(random: &mut Random, network: &mut Network) {
 /// Takes the weight of one member to one below its load.
 fn overload_one(random: &mut Random, network: &mut Network) {
     let member = random.pick(&network.trees[0].members);
-    network.links[member].weight = cuts::loads(network)[member] - 1;
+    network.links[member].weight = cuts::loads(&network.links, &network.trees)[member] - 1;
 }
 
-/// Shares whose threefold sum is as near to the lightest weight as can be, and weights that the loads do not exceed where a few
-/// attempts reach that.
+/// Shares of the first trees, often of all, whose threefold sum is as near to the lightest weight as can be, and weights that the loads
+/// do not exceed where a few attempts reach that. A tree behind them ends the run.
 fn fit_shares(random: &mut Random, network: &mut Network) {
     const ATTEMPTS: usize = 6;
     let most = most_for_one_share(network);
+    let trees = network.trees.len();
+    let run = if random.once_in(2) { trees } else { random.between(1, trees) };
     for _ in 0..ATTEMPTS {
-        let mut left = (cuts::answer(network).candidate.weight + 1) / 3;
-        let last = network.trees.len() - 1;
-        for (place, tree) in network.trees.iter_mut().enumerate() {
-            tree.share = if place == last { left } else { random.between(0, left as usize) as u64 };
-            left -= tree.share;
-        }
+        share_out(random, network, run);
         if !cuts::overloaded(network) {
+            if run < trees {
+                runs::end_at(random, network, run);
+            }
             return;
         }
-        for (link, load) in cuts::loads(network).into_iter().enumerate() {
+        for (link, load) in cuts::loads(&network.links, &network.trees).into_iter().enumerate() {
             network.links[link].weight = network.links[link].weight.max(load).min(most);
         }
     }
-    let shares = (cuts::answer(network).candidate.weight + 1) / 3;
-    network.trees.iter_mut().for_each(|tree| tree.share = 0);
-    network.trees[0].share = shares;
+    share_out(random, network, 1);
+}
+
+/// Gives the first trees, so many, a third of the lightest weight together, and the others nothing.
+fn share_out(random: &mut Random, network: &mut Network, trees: usize) {
+    let mut left = (cuts::answer(network).candidate.weight + 1) / 3;
+    for (place, tree) in network.trees.iter_mut().enumerate() {
+        tree.share = if place + 1 == trees { left } else { random.between(0, left as usize) as u64 };
+        left -= tree.share;
+    }
 }
 
 /// How many light links [`light_side_ends`] starts with.
@@ -389,7 +412,8 @@ fn with_light_side(random: &mut Random, size: Size) -> Network {
 #[cfg(test)]
 mod tests {
     use super::*;
-    use crate::{every_side, text};
+    use crate::cuts::Counting;
+    use crate::{every_side, sold, text};
     use std::collections::BTreeSet;
 
     fn small(random: &mut Random, feature: Feature) -> Network {
@@ -412,6 +436,8 @@ mod tests {
                 assert_eq!(answer, every_side::answer(&network));
                 assert_eq!(every_side::check_demand(&network, &answer), Ok(()));
                 assert_eq!(every_side::check_candidates(&network), Ok(()));
+                let sold = cuts::answer_by(Counting::AllOrNone, &network);
+                assert_eq!(sold::check(&network, &sold, &answer), Ok(()));
             }
         }
     }
@@ -421,13 +447,24 @@ mod tests {
         let mut random = Random::new(2);
         for _ in 0..50 {
             let at = small(&mut random, Feature::LoadAtWeight);
-            let tight = |network: &Network, more: u64| {
-                let loads = cuts::loads(network);
-                loads.iter().zip(&network.links).any(|(&load, link)| load > 0 && load == link.weight + more)
-            };
-            assert!(!cuts::overloaded(&at) && tight(&at, 0));
+            let loads = cuts::loads(&at.links, &at.trees);
+            assert!(loads.iter().zip(&at.links).any(|(&load, link)| load > 0 && load == link.weight));
+            assert_eq!(cuts::longest_run(&at), at.trees.len());
+        }
+    }
+
+    #[test]
+    fn one_load_is_above_its_weight_from_the_last_tree_on_that_holds_its_link() {
+        let mut random = Random::new(2);
+        for _ in 0..50 {
             let above = small(&mut random, Feature::LoadAboveWeight);
-            assert!(cuts::overloaded(&above) && tight(&above, 1));
+            let loads = cuts::loads(&above.links, &above.trees);
+            let is_above = |&link: &usize| loads[link] > above.links[link].weight;
+            let links: Vec<usize> = (0..above.links.len()).filter(is_above).collect();
+            let [link] = links[..] else { panic!("above: {links:?}") };
+            assert_eq!(loads[link], above.links[link].weight + 1);
+            let last_holder = above.trees.iter().rposition(|tree| tree.members.contains(&link));
+            assert_eq!(Some(cuts::longest_run(&above)), last_holder);
         }
     }
 
@@ -435,29 +472,34 @@ mod tests {
     fn three_shares_stand_at_the_weight_below_and_above() {
         let mut random = Random::new(3);
         let mut seen = BTreeSet::new();
-        for _ in 0..1000 {
+        let mut none_count = 0;
+        for _ in 0..4000 {
             let network = small(&mut random, Feature::SharesAtWeight);
+            let counted = cuts::counted(Counting::LongestRun, &network);
+            if counted.is_empty() {
+                none_count += 1;
+                continue;
+            }
             let weight = cuts::answer(&network).candidate.weight as i64;
-            let difference = cuts::three_shares(&network) as i64 - weight;
+            let difference = cuts::three_shares(counted) as i64 - weight;
             assert!(difference.abs() <= 1);
-            seen.insert((difference, weight > i64::from(u32::MAX), cuts::overloaded(&network)));
+            seen.insert((difference, weight > i64::from(u32::MAX), counted.len() == network.trees.len()));
         }
-        for (difference, wide) in
-            [-1, 0, 1].into_iter().flat_map(|difference| [(difference, false), (difference, true)])
-        {
-            assert!(seen.contains(&(difference, wide, false)), "{difference}, {wide}");
-        }
+        assert!(none_count < 400, "{none_count}");
+        assert_eq!(seen.len(), 3 * 2 * 2, "{seen:?}");
     }
 
     #[test]
     fn sums_wrap_in_32_bits_without_overload_there() {
         let mut random = Random::new(4);
         let wraps = |network: &Network| {
-            let loads = cuts::loads(network);
-            let fits = |(&load, link): (&u64, &Link)| u64::from(load as u32) <= link.weight;
-            cuts::overloaded(network) && loads.iter().zip(&network.links).all(fits)
+            let Some(past) = network.trees.get(..=cuts::longest_run(network)) else {
+                return false;
+            };
+            let fits = |(load, link): (u64, &Link)| u64::from(load as u32) <= link.weight;
+            cuts::loads(&network.links, past).into_iter().zip(&network.links).all(fits)
         };
-        assert!((0..100).filter(|_| wraps(&small(&mut random, Feature::WideSums))).count() > 10);
+        assert!((0..100).filter(|_| wraps(&small(&mut random, Feature::WideSums))).count() > 30);
     }
 
     #[test]
@@ -478,9 +520,13 @@ mod tests {
     #[test]
     fn later_trees_are_reported() {
         let mut random = Random::new(5);
+        let mut behind_the_run = 0;
         for _ in 0..100 {
             let network = small(&mut random, Feature::LaterTree);
-            assert!(cuts::answer(&network).candidate.tree > 0);
+            let tree = cuts::answer(&network).candidate.tree;
+            assert!(tree > 0);
+            behind_the_run += usize::from(tree >= cuts::longest_run(&network));
         }
+        assert!((30..100).contains(&behind_the_run), "{behind_the_run}");
     }
 }

@@ -14,4 +14,5 @@ pub mod random;
 pub mod report;
 pub mod shapes;
 pub mod sheet;
+pub mod sold;
 pub mod text;

@@ -5,7 +5,7 @@ use mathlib.Core.List.{List}
 use lib.ListN.{drop}
 use Rattle.cuts.specs.Sums.{countTo}
 use Rattle.cuts.specs.Network.{flag}
-use Rattle.cuts.specs.Bound.{floor}
+use Rattle.cuts.specs.Bound.{Counting, counted, floor}
 use Rattle.cuts.specs.Answer.{reported, answer, verdictOf}
 use Rattle.sheet.specs.Bytes.{Bytes}
 use Rattle.sheet.specs.Sheet.{Counts, treeIn}
@@ -13,25 +13,25 @@ use Rattle.reader.specs.Answers.{treesFrom, networkAt}
 use Rattle.choice.specs.Choice.{Says}
 use Rattle.choice.specs.declared.Found.{Found}
 
-module _ (s : Bytes) (ends : List (List ℕ)) (ws : List ℕ) (c : Counts) (at : ℕ) where
+module _ (r : Counting) (s : Bytes) (ends : List (List ℕ)) (ws : List ℕ) (c : Counts) (at : ℕ) where
   trees-held : treesFrom (networkAt s ends ws c at) (c .trees) (drop at s) ≡ networkAt s ends ws c at .trees
   unfolding treesFrom treeIn
   trees-held = refl
 
-  pub count-is : answer (networkAt s ends ws c at) .count ≡ countTo (c .nodes) (flag (answer (networkAt s ends ws c at) .best .side))
+  pub count-is : answer r (networkAt s ends ws c at) .count ≡ countTo (c .nodes) (flag (answer r (networkAt s ends ws c at) .best .side))
   unfolding answer
   count-is = refl
 
   module _ {found : Found} (says : Says found (reported (networkAt s ends ws c at))) where
-    pub says-best : Says found (answer (networkAt s ends ws c at) .best)
+    pub says-best : Says found (answer r (networkAt s ends ws c at) .best)
     unfolding answer
     says-best = says
 
-    module _ {f : ℕ} (bound : f ≡ floor (networkAt s ends ws c at) (treesFrom (networkAt s ends ws c at) (c .trees) (drop at s)) (found .weight)) where
-      pub floor-is : answer (networkAt s ends ws c at) .floor ≡ f
+    module _ {f : ℕ} (bound : f ≡ floor (counted r (networkAt s ends ws c at) (treesFrom (networkAt s ends ws c at) (c .trees) (drop at s))) (found .weight)) where
+      pub floor-is : answer r (networkAt s ends ws c at) .floor ≡ f
       unfolding answer
       floor-is = sym (rw (trees-held, says .weight) at bound)
 
-      pub verdict-is : answer (networkAt s ends ws c at) .verdict ≡ verdictOf f (found .weight)
+      pub verdict-is : answer r (networkAt s ends ws c at) .verdict ≡ verdictOf f (found .weight)
       unfolding answer
       verdict-is = rw (← floor-is, says .weight)

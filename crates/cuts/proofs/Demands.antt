@@ -1,6 +1,6 @@
 -- The answer of every sound network meets demands 2 and 3. A side that some tree crosses at most twice is a candidate's, or its complement
 -- is, and no candidate weighs less than the first in the order; a side that every tree crosses three times weighs at least three times
--- the shares, where no link is overloaded.
+-- the shares of the trees that count, since these are a packing.
 -- Assumes nothing.
 use Prim.Native.Nat.{ℕ, zero, suc, _+_, _*_, _≤_, _<_, min}
 use mathlib.Core.Path.{_≡_, refl, sym, ap, _∙_, subst}
@@ -10,14 +10,14 @@ use mathlib.Core.List.{List, _∷_, map, List·Memᴰ, List·Memᴰ·cases-cons,
 use native.Mathlib.Nat.{eq-or-lt-of-le}
 use native.Mathlib.Omega.{arith}
 use lib.ListN.{length, length-map}
-use lib.Dec.{eqb, leb, ltb}
-use borrow.Author.Tests.{eqb-true, eq-eqb, ne-eqb, lt-ltb, ltb-true, ltb-false, leb-true, leb-false}
+use lib.Dec.{eqb, leb}
+use borrow.Author.Tests.{eqb-true, eq-eqb, ne-eqb, ltb-true, ltb-false, leb-true, leb-false}
 use Rattle.cuts.specs.Sums.{only, anyTo}
-use Rattle.cuts.specs.Network.{Tree, Network, Linked, flag, linkAt, linkCount, noTree, treeAt}
+use Rattle.cuts.specs.Network.{Tree, Network, Linked, flag, linkCount, noTree, treeAt}
 use Rattle.cuts.specs.Cut.{Side, Respects, Proper, Rootless, crosses, cutWeight, crossings, size}
 use Rattle.cuts.specs.Tree.{Spanning, Sound, memberCount}
 use Rattle.cuts.specs.Candidate.{Candidate, Handle, Fits, Earlier, Precedes, one, two, candidate, candidates, lighter, noCandidate, sideOf}
-use Rattle.cuts.specs.Bound.{load, shares, overloaded, floor}
+use Rattle.cuts.specs.Bound.{shares, Counting, Counts, counted, floor}
 use Rattle.cuts.specs.Answer.{Answer, certified, treesOnly, verdictOf, reported, judged, answer}
 use Rattle.cuts.specs.Demands.{Demand2, Demand3, Owed}
 use Rattle.cuts.proofs.FlagLaws.{clash, truth}
@@ -25,6 +25,7 @@ use Rattle.cuts.proofs.SumLaws.{anyTo-some, anyTo-at, sum-congr, sum-ad
 use Rattle.cuts.proofs.ListLaws.{mem-at, each-split}
 use Rattle.cuts.proofs.CutLaws.{crosses-is, flag-not, cutWeight-not, crossings-not, weightOf-is}
 use Rattle.cuts.proofs.Crossings.{named, sideOf-rootless, sideOf-crosses, sideOf-crossings, crossings-none, belongs}
+use Rattle.cuts.proofs.CountedLaws.{counted-counts, counts-packed, counts-listed}
 use Rattle.cuts.proofs.Packing.{packing}
 use Rattle.cuts.proofs.Least.{Order, by-key, First, first-in, first-least, first-of}
 use Rattle.cuts.proofs.Handles.{Genuine, candidate-in, candidate-of, candidates-earlier}
@@ -122,7 +123,7 @@ lighter-weighing : Weighing lighter
 unfolding lighter
 lighter-weighing = record { order = by-key (λ c. c .weight); by-weight = λ d c e. ltb-false _ _ e }
 
-verdict-tells : (f w : ℕ) → (verdictOf f w ≡ certified) ↔ (w ≡ f)
+pub verdict-tells : (f w : ℕ) → (verdictOf f w ≡ certified) ↔ (w ≡ f)
 verdict-tells f w = (λ h. sym (eqb-true f w (whole (eqb f w) h)), λ h. rw (eq-eqb f w (sym h)))
   where
     whole : (b : Bool) → _≡_ {A = ℕ} (cond b 2 1) 2 → b ≡ true
@@ -218,23 +219,23 @@ module _ (net : Network) (v : Sound net) where
         let z = u .weighs in
         omega arith
 
-    -- what some of the trees that overload no link say of every cut
-    pub packed : (ts : List Tree) → ((t : Tree) → List·Memᴰ t ts → List·Memᴰ t (net .trees)) → overloaded net ts ≡ false
-        → (s : Side) → Proper net s → min (c .weight) (3 * shares ts) ≤ cutWeight net s
-    packed ts i e s p = step (few-or-many s)
-      where
-        step : ((i : ℕ) × (i < length (net .trees)) × (Respects net (treeAt net i) s)) ⊎ ((t : Tree) → List·Memᴰ t (net .trees) → 3 ≤ crossings net t s)
-            → min (c .weight) (3 * shares ts) ≤ cutWeight net s
-        step (inl r) = let l = light s p (r .0) (r .1) (r .2) in omega arith
-        step (inr r) = let l = packing net s 3 ts e (λ t m. r t (i t m)) in omega arith
-
-    pub floor-least : (ts : List Tree) → ((t : Tree) → List·Memᴰ t ts → List·Memᴰ t (net .trees)) → (s : Side) → Proper net s → floor net ts (c .weight) ≤ cutWeight net s
+    -- what the trees that count say of every cut
+    pub floor-least : (r : Counting) (s : Side) → Proper net s → floor (counted r net (net .trees)) (c .weight) ≤ cutWeight net s
     unfolding floor
-    floor-least ts i s p = step (overloaded net ts) refl
+    floor-least r s p = step (few-or-many s)
       where
-        step : (o : Bool) → overloaded net ts ≡ o → cond o 0 (min (c .weight) (3 * shares ts)) ≤ cutWeight net s
-        step true e = omega arith
-        step false e = packed ts i e s p
+        cs : List Tree
+        cs = counted r net (net .trees)
+
+        counts : Counts r net (net .trees) cs
+        counts = counted-counts net (net .trees) r
+
+        step : ((i : ℕ) × (i < length (net .trees)) × (Respects net (treeAt net i) s)) ⊎ ((t : Tree) → List·Memᴰ t (net .trees) → 3 ≤ crossings net t s)
+            → min (c .weight) (3 * shares cs) ≤ cutWeight net s
+        step (inl k) = let l = light s p (k .0) (k .1) (k .2) in omega arith
+        step (inr k) =
+            let l = packing net s 3 cs (counts-packed net (net .trees) r cs counts) (λ t m. k t (counts-listed net (net .trees) r cs counts t m)) in
+            omega arith
 
     -- the first comes before every other, or they are even and it stands in front
     pub precedes : (d : Candidate) → List·Memᴰ d (candidates net) → (d ≡ c) ⊎ ((before c d ≡ true) ⊎ ((before d c ≡ false) × Earlier c d))
@@ -247,21 +248,6 @@ module _ (net : Network) (v : Sound net) where
         step : List·Memᴰ d (f .before) ⊎ List·Memᴰ d (c ∷ f .after) → (d ≡ c) ⊎ ((before c d ≡ true) ⊎ ((before d c ≡ false) × Earlier c d))
         step (inl i) = inr (inl (f .leads d i))
         step (inr i) = last (List·Memᴰ·cases-cons i)
-
-  floor-packed : (w : ℕ) → ((k : ℕ) → k < linkCount net → load (net .trees) k ≤ linkAt net k .weight) → floor net (net .trees) w ≡ min w (3 * shares (net .trees))
-  unfolding floor overloaded
-  floor-packed w h = step (anyTo (linkCount net) heavy) refl
-    where
-      heavy : ℕ → Bool
-      heavy k = ltb (linkAt net k .weight) (load (net .trees) k)
-
-      step : (o : Bool) → anyTo (linkCount net) heavy ≡ o → cond o 0 (min w (3 * shares (net .trees))) ≡ min w (3 * shares (net .trees))
-      step false e = refl
-      step true e = let r = anyTo-some (linkCount net) heavy e in let a : linkAt net (r .0) .weight < load (net .trees) (r .0) = ltb-true _ _ (r .2) in let b = h (r .0) (r .1) in absurd (omega arith)
-
-  floor-elsewhere : (w k : ℕ) → k < linkCount net → linkAt net k .weight < load (net .trees) k → floor net (net .trees) w ≡ 0
-  unfolding floor overloaded
-  floor-elsewhere w k b h = rw (anyTo-at (linkCount net) (λ j. ltb (linkAt net j .weight) (load (net .trees) j)) k b (lt-ltb _ _ h))
 
   -- ---- the answer
 
@@ -284,30 +270,32 @@ module _ (net : Network) (v : Sound net) where
           even (inl q) = inr (q, e .1)
           even (inr l) = inl l
 
-  pub answer-demand2 : Demand2 net (answer net)
-  unfolding answer judged
-  answer-demand2 = candidate-agrees (answer net) (first-in reported-first) refl
+  module _ (r : Counting) where
+    pub answer-demand2 : Demand2 net (answer r net)
+    unfolding answer judged
+    answer-demand2 = candidate-agrees (answer r net) (first-in reported-first) refl
 
-  pub answer-demand3 : Demand3 net (answer net)
-  unfolding answer judged
-  answer-demand3 = record {
-    proper = agrees-proper (answer net) answer-demand2;
-    respects = (reported net .tree, answer-demand2 .tree-listed, answer-demand2 .at-most-two);
-    own-weight = agrees-weight (answer net) answer-demand2;
-    lightest = light lighter-weighing (reported net) reported-first;
-    floor-packed = floor-packed (reported net .weight);
-    floor-elsewhere = floor-elsewhere (reported net .weight);
-    floor-bounds = floor-least lighter-weighing (reported net) reported-first (net .trees) (λ t m. m);
-    marked = verdict-tells (floor net (net .trees) (reported net .weight)) (reported net .weight);
-  }
+    pub answer-demand3 : Demand3 r net (answer r net)
+    unfolding answer judged floor
+    answer-demand3 = record {
+      proper = agrees-proper (answer r net) answer-demand2;
+      respects = (reported net .tree, answer-demand2 .tree-listed, answer-demand2 .at-most-two);
+      own-weight = agrees-weight (answer r net) answer-demand2;
+      lightest = light lighter-weighing (reported net) reported-first;
+      counted = counted r net (net .trees);
+      counts = counted-counts net (net .trees) r;
+      floor-is = refl;
+      floor-bounds = floor-least lighter-weighing (reported net) reported-first r;
+      marked = verdict-tells (answer r net .floor) (reported net .weight);
+    }
 
-  pub answer-owed : Owed net (answer net)
-  unfolding answer judged
-  answer-owed = record {
-    demand2 = answer-demand2;
-    demand3 = answer-demand3;
-    rootless = agrees-rootless (answer net) answer-demand2;
-    unmarked = verdict-else (answer net .floor) (reported net .weight);
-    listed = first-in reported-first;
-    first = reported-precedes;
-  }
+    pub answer-owed : Owed r net (answer r net)
+    unfolding answer judged
+    answer-owed = record {
+      demand2 = answer-demand2;
+      demand3 = answer-demand3;
+      rootless = agrees-rootless (answer r net) answer-demand2;
+      unmarked = verdict-else (answer r net .floor) (reported net .weight);
+      listed = first-in reported-first;
+      first = reported-precedes;
+    }

@@ -6,10 +6,12 @@ pub mod CutLaws
 pub mod Spanning
 pub mod Crossings
 pub mod LoadLaws
+pub mod CountedLaws
 pub mod LimitLaws
 pub mod Packing
 pub mod Least
 pub mod Handles
 pub mod Demands
+pub mod Sold
 pub mod Walks
 pub mod Growth

@@ -1,19 +1,16 @@
--- The bound of a tree packing: a cut that every tree crosses c times weighs at least c times the shares.
+-- The bound of a tree packing: a cut that each of its trees crosses c times weighs at least c times the shares.
 -- Assumes nothing.
-use Prim.Native.Nat.{ℕ, _+_, _*_, _≤_, _<_}
+use Prim.Native.Nat.{ℕ, _+_, _*_, _≤_}
 use mathlib.Core.Path.{_≡_, refl}
 use mathlib.Core.Bool.{Bool, true, false, _&&_}
 use mathlib.Core.List.{List, [], _∷_, List·Memᴰ, List·Memᴰ·head, List·Memᴰ·tail}
 use native.Mathlib.Nat.{mul-le-mul-left}
 use native.Mathlib.Omega.{arith}
-use lib.Dec.{ltb}
-use borrow.Author.Tests.{ltb-false}
 use Rattle.cuts.specs.Sums.{sumTo, only}
-use Rattle.cuts.specs.Network.{Tree, Network, flag, linkAt, linkCount}
+use Rattle.cuts.specs.Network.{Tree, Network, flag, linkCount}
 use Rattle.cuts.specs.Cut.{Side, crosses, cutWeight, crossings}
-use Rattle.cuts.specs.Bound.{load, shares, overloaded}
-use Rattle.cuts.proofs.FlagLaws.{clash}
-use Rattle.cuts.proofs.SumLaws.{anyTo-at, sum-congr, sum-mono, sum-add, sum-scale}
+use Rattle.cuts.specs.Bound.{load, shares, Packed}
+use Rattle.cuts.proofs.SumLaws.{sum-congr, sum-mono, sum-add, sum-scale}
 
 module _ (net : Network) (s : Side) (c : ℕ) where
   -- the loads that cross the side, tree by tree
@@ -36,17 +33,10 @@ module _ (net : Network) (s : Side) (c : ℕ) where
       split true false w l = omega arith
       split false false w l = omega arith
 
-  pub packing : (ts : List Tree) → overloaded net ts ≡ false → ((t : Tree) → List·Memᴰ t ts → c ≤ crossings net t s) → c * shares ts ≤ cutWeight net s
-  unfolding cutWeight overloaded
-  packing ts o h = let l = loads ts h in let m = sum-mono (linkCount net) _ _ carried in omega arith
+  pub packing : (ts : List Tree) → Packed net ts → ((t : Tree) → List·Memᴰ t ts → c ≤ crossings net t s) → c * shares ts ≤ cutWeight net s
+  unfolding cutWeight
+  packing ts p h = let l = loads ts h in let m = sum-mono (linkCount net) _ _ (λ k b. fits (crosses net s k) (p k b)) in omega arith
     where
-      fits : (b : Bool) (x y : ℕ) → x ≤ y → only b x ≤ only b y
-      fits true x y h = h
-      fits false x y h = omega arith
-
-      carried : (k : ℕ) → k < linkCount net → only (crosses net s k) (load ts k) ≤ only (crosses net s k) (linkAt net k .weight)
-      carried k b = fits (crosses net s k) _ _ (ltb-false _ _ (light _ refl))
-        where
-          light : (c : Bool) → ltb (linkAt net k .weight) (load ts k) ≡ c → c ≡ false
-          light false e = refl
-          light true e = clash (anyTo-at (linkCount net) (λ j. ltb (linkAt net j .weight) (load ts j)) k b e) o
+      fits : (b : Bool) {x y : ℕ} → x ≤ y → only b x ≤ only b y
+      fits true h = h
+      fits false h = omega arith

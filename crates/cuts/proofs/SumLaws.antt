@@ -8,8 +8,8 @@ use mathlib.Core.List.{List, [], _∷_, _++_}
 use native.Mathlib.Nat.{eq-or-lt-of-le, le-of-suc-le-suc, not-suc-le-zero}
 use native.Mathlib.Decide.{decLt}
 use native.Mathlib.Omega.{arith}
-use lib.ListN.{length, getD, set, length-append, List·getD-append}
-use lib.Seq.{getD-at}
+use lib.ListN.{length, getD, set, take, length-append, List·getD-append}
+use lib.Seq.{getD-at, take-all, take-append-le}
 use lib.Dec.{eqb, eqb·zero-suc, eqb·suc-zero, eqb·suc-suc}
 use borrow.Author.Tests.{eqb-true, eqb-false, eq-eqb, ne-eqb}
 use Rattle.cuts.specs.Sums.{sumTo, only, anyTo, allTo, table, countTo}
@@ -91,6 +91,10 @@ sum-const (suc n) c = let r = sum-const n c in omega arith
 
 pub sum-zero : (n : ℕ) (f : ℕ → ℕ) → ((k : ℕ) → k < n → f k ≡ 0) → sumTo n f ≡ 0
 sum-zero n f h = let a = sum-congr n f (λ k. 0) h in let b = sum-const n 0 in omega arith
+
+pub only-none : (b : Bool) → only b 0 ≡ 0
+only-none true = refl
+only-none false = refl
 
 pub sum-only : (n : ℕ) (c : Bool) (f : ℕ → ℕ) → sumTo n (λ k. only c (f k)) ≡ only c (sumTo n f)
 sum-only n true f = refl
@@ -297,6 +301,15 @@ pub table-congr : {A : Type 0} (n : ℕ) (f g : ℕ → A) → ((k : ℕ) → k 
 unfolding table
 table-congr zero f g h = refl
 table-congr (suc n) f g h = rw (table-congr n f g (λ k b. h k (omega arith)), h n (omega arith))
+
+pub take-table : {A : Type 0} (n i : ℕ) (f : ℕ → A) → i ≤ n → take i (table n f) ≡ table i f
+unfolding table
+take-table zero i f b = rw (let e : i ≡ 0 = omega arith in e)
+take-table (suc n) i f b = step (eq-or-lt-of-le b) (λ l. take-table n i f l)
+  where
+    step : (i ≡ suc n) ⊎ (i < suc n) → (i ≤ n → take i (table n f) ≡ table i f) → take i (table n f ++ f n ∷ []) ≡ table i f
+    step (inl e) h = rw e (take-all (suc n) (table (suc n) f) (let l = table-length (suc n) f in omega arith))
+    step (inr l) h = take-append-le i (table n f) (f n ∷ []) (let k = table-length n f in omega arith) ∙ h (omega arith)
 
 pub table-at : {A : Type 0} (d : A) (n : ℕ) (f : ℕ → A) (x : ℕ) → x < n → getD (table n f) x d ≡ f x
 unfolding table

@@ -2,18 +2,18 @@
 -- read back from the bytes of the two areas. The comments are the demands' words. Assumes nothing.
 --   Belongs net t s   the side s belongs to one single link or pair of the tree t
 --   Demand2 net a     the answer a agrees with the definition of a cut that crosses at most two tree links, and conversely
---   Demand3 net a     the answer a reports a lightest cut, its floor and its mark
---   Owed net a        what is owed of an answer: both demands, and what document 01 says of the choice among candidates
+--   Demand3 r net a   the answer a reports a lightest cut, its floor and its mark, where trees count for the floor by the rule r
+--   Owed r net a      what is owed of an answer: both demands, and what document 01 says of the choice among candidates
 use Prim.Native.Nat.{ℕ, _*_, _≤_, _<_, min}
 use mathlib.Core.Path.{_≡_}
 use mathlib.Core.Logic.{_⊎_, _↔_}
-use mathlib.Core.List.{List·Memᴰ}
+use mathlib.Core.List.{List, List·Memᴰ}
 use lib.ListN.{length}
-use Rattle.cuts.specs.Network.{Tree, Network, linkAt, linkCount, treeAt}
+use Rattle.cuts.specs.Network.{Tree, Network, treeAt}
 use Rattle.cuts.specs.Cut.{Side, Respects, Proper, Rootless, crosses, cutWeight, crossings, size}
 use Rattle.cuts.specs.Tree.{Member}
 use Rattle.cuts.specs.Candidate.{Handle, Candidate, Fits, names, sideOf, weightOf, candidates, Precedes}
-use Rattle.cuts.specs.Bound.{load, shares}
+use Rattle.cuts.specs.Bound.{Counting, Counts, shares}
 use Rattle.cuts.specs.Answer.{Answer, certified, treesOnly}
 
 pub record Belongs (net : Network) (t : Tree) (s : Side) : Type 0 where
@@ -41,7 +41,7 @@ pub record Demand2 (net : Network) (a : Answer) : Type 0 where
   pub conversely : (i : ℕ) → i < length (net .trees) → (s : Side) → Rootless net s
       → 1 ≤ crossings net (treeAt net i) s → Respects net (treeAt net i) s → Belongs net (treeAt net i) s
 
-pub record Demand3 (net : Network) (a : Answer) : Type 0 where
+pub record Demand3 (r : Counting) (net : Network) (a : Answer) : Type 0 where
   -- "the weakest cut reported is neither empty nor full"
   pub proper : Proper net (a .best .side)
   -- "and crosses at most two cables of some listed tree"
@@ -51,20 +51,19 @@ pub record Demand3 (net : Network) (a : Answer) : Type 0 where
   -- "every side, neither empty nor full, that crosses at most two cables of at least one listed tree weighs at least as much"
   pub lightest : (s : Side) → Proper net s → (i : ℕ) → i < length (net .trees) → Respects net (treeAt net i) s
       → a .best .weight ≤ cutWeight net s
-  -- "Where no cable's trees have shares adding up to more than its capacity, the reported floor equals the lesser of the cut's
-  -- weight and three times the sum of all shares"
-  pub floor-packed : ((k : ℕ) → k < linkCount net → load (net .trees) k ≤ linkAt net k .weight)
-      → a .floor ≡ min (a .best .weight) (3 * shares (net .trees))
-  -- "elsewhere it is 0"
-  pub floor-elsewhere : (k : ℕ) → k < linkCount net → linkAt net k .weight < load (net .trees) k → a .floor ≡ 0
+  -- F-3, in place of the demand's sum of all shares and its 0 elsewhere: "the trees that count are the longest run from tree 0 on
+  -- that loads no link past its weight, and the floor uses the sum of their shares only"
+  pub counted : List Tree
+  pub counts : Counts r net (net .trees) counted
+  pub floor-is : a .floor ≡ min (a .best .weight) (3 * shares counted)
   -- "Every side of the whole network, neither empty nor full, whether or not a tree shows it, weighs at least the reported floor"
   pub floor-bounds : (s : Side) → Proper net s → a .floor ≤ cutWeight net s
   -- "the cut is marked as weakest of the whole network exactly when its weight equals that floor"
   pub marked : (a .verdict ≡ certified) ↔ (a .best .weight ≡ a .floor)
 
-pub record Owed (net : Network) (a : Answer) : Type 0 where
+pub record Owed (r : Counting) (net : Network) (a : Answer) : Type 0 where
   pub demand2 : Demand2 net a
-  pub demand3 : Demand3 net a
+  pub demand3 : Demand3 r net a
   -- document 01: "so the reported side never holds node 0"
   pub rootless : Rootless net (a .best .side)
   -- document 01: "else 1 (trees only)"

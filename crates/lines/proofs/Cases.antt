@@ -25,15 +25,15 @@ starredLines =
     ∷ ascii "answer 1 4 0 0 0 - 1\nside 1\n"
     ∷ []
 
-starred-printed : map (λ c. output (decode current (c .sheet))) starred ≡ starredLines
+starred-printed : map (λ c. output current (decode current (c .sheet))) starred ≡ starredLines
 unfolding starred starredLines decode answer decimal answerLines
 starred-printed = refl
 
 -- no byte at all, and network H with a byte behind its tree
-refused-printed : output (decode current []) ≡ ascii "refused 3\n"
+refused-printed : output current (decode current []) ≡ ascii "refused 3\n"
 unfolding decode decimal refusedLine
 refused-printed = refl
 
-longer-printed : output (decode current (2 ∷ 0 ∷ 1 ∷ 0 ∷ 1 ∷ 7 ∷ 0 ∷ 0 ∷ 1 ∷ 0 ∷ 4 ∷ 0 ∷ 0 ∷ 0 ∷ 1 ∷ 0 ∷ 0 ∷ 0 ∷ 1 ∷ 0 ∷ [])) ≡ ascii "refused 16\n"
+longer-printed : output current (decode current (2 ∷ 0 ∷ 1 ∷ 0 ∷ 1 ∷ 7 ∷ 0 ∷ 0 ∷ 1 ∷ 0 ∷ 4 ∷ 0 ∷ 0 ∷ 0 ∷ 1 ∷ 0 ∷ 0 ∷ 0 ∷ 1 ∷ 0 ∷ [])) ≡ ascii "refused 16\n"
 unfolding decode decimal refusedLine
 longer-printed = refl

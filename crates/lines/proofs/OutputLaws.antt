@@ -46,8 +46,8 @@ answerLines-put {old} {mid} {new} {p} {q} f fs side report e h k =
     (put-put h k)
 
 -- read from the areas with a flag for each of the 256 bits, an answer prints as it does with a flag for each node
-answerLines-back : (f : Format) (net : Network) (side report : Bytes) → answerRead f (net .nodes) (sideAfter net side) (reportAfter f net report) ≡ answer net
-    → answerLines (answerRead f 256 (sideAfter net side) (reportAfter f net report)) ≡ answerLines (answer net)
+answerLines-back : (f : Format) (net : Network) (side report : Bytes) → answerRead f (net .nodes) (sideAfter net side) (reportAfter f net report) ≡ answer (f .counting) net
+    → answerLines (answerRead f 256 (sideAfter net side) (reportAfter f net report)) ≡ answerLines (answer (f .counting) net)
 unfolding answer answerLines answerRead sideRead sideBytes
 answerLines-back f net side report back =
     let test : ℕ → Bool = flag (reported net .side) in
@@ -63,20 +63,20 @@ module _ {f : Format} {sheet side report side′ report′ : Bytes} {n : ℕ} (s
   decides : reading f sheet side report ≡ decode f sheet
   decides = reading-is f sheet side report (omega arith) (omega arith)
 
-  pub answer-output : ((net : Network) → decode f sheet ≡ accepted net [] → answerRead f (net .nodes) (sideAfter net side) (reportAfter f net report) ≡ answer net)
-      → n ≡ 0 → answerLines (answerRead f 256 side′ report′) ≡ output (decode f sheet)
+  pub answer-output : ((net : Network) → decode f sheet ≡ accepted net [] → answerRead f (net .nodes) (sideAfter net side) (reportAfter f net report) ≡ answer (f .counting) net)
+      → n ≡ 0 → answerLines (answerRead f 256 side′ report′) ≡ output f (decode f sheet)
   answer-output back z =
       let read = decode-zero f sheet (sym (said .number ∙ ap numberOf decides) ∙ z) in
       let net : Network = read .0 in
       let e : reading f sheet side report ≡ accepted net [] = decides ∙ read .1 in
       ap₂ (λ (a b : Bytes). answerLines (answerRead f 256 a b)) (said .side-is ∙ ap (sideLeft side) e) (said .report-is ∙ ap (reportLeft f report) e)
       ∙ answerLines-back f net side report (back net (read .1))
-      ∙ sym (ap output (read .1))
+      ∙ sym (ap (output f) (read .1))
 
-  pub refused-output : (n ≡ 0 → ⊥) → refusedLine n ≡ output (decode f sheet)
+  pub refused-output : (n ≡ 0 → ⊥) → refusedLine n ≡ output f (decode f sheet)
   refused-output z = step (decode f sheet) (said .number ∙ ap numberOf decides)
     where
-      step : (d : Reading Network) → n ≡ numberOf d → refusedLine n ≡ output d
+      step : (d : Reading Network) → n ≡ numberOf d → refusedLine n ≡ output f d
       step (accepted net rest) e = absurd (z e)
       step (refused m) e = ap refusedLine e
 

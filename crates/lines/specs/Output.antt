@@ -5,7 +5,7 @@
 --   sideFields s                        the nodes in a side, rising
 --   answerLines a                       the two lines of an answer
 --   refusedLine n                       the line of the refusal n
---   output r                            what is printed where r is what the sheet gives
+--   output f r                          what is printed where r is what the sheet gives in the format f
 --   mostOutput                          no output has more bytes
 use Prim.Native.Nat.{ℕ}
 use mathlib.Core.List.{List, [], _∷_, _++_, map}
@@ -15,6 +15,7 @@ use Rattle.cuts.specs.Cut.{Side}
 use Rattle.cuts.specs.Candidate.{Handle, one, two}
 use Rattle.cuts.specs.Answer.{Answer, answer}
 use Rattle.sheet.specs.Reading.{Reading, accepted, refused}
+use Rattle.sheet.specs.Sheet.{Format}
 use Rattle.sheet.specs.Areas.{firstLink}
 use Rattle.text.specs.Decimal.{Text, decimal}
 use Rattle.text.specs.Line.{ascii, line}
@@ -50,9 +51,9 @@ unfoldable pub refusedLine : ℕ → Text
 unfolding line
 refusedLine n = line refusedWord (decimal n ∷ [])
 
-abbrev pub output : Reading Network → Text
-output (accepted net rest) = answerLines (answer net)
-output (refused n) = refusedLine n
+abbrev pub output : Format → Reading Network → Text
+output f (accepted net rest) = answerLines (answer (f .counting) net)
+output f (refused n) = refusedLine n
 
 -- 75 for the first line with each field of the report area at its largest, 919 for the second with all 256 nodes
 abbrev pub mostOutput : ℕ

@@ -141,7 +141,7 @@ fn refused_line(out: &mut [u8], number: u32) -> usize
 // Reads a sheet and writes what the report program prints for it to the front of the buffer; the rest of the buffer is kept. Answers
 // how many bytes that is. The second promise follows from the first; it is what a caller needs to lend these bytes.
 pub fn report_lines(sheet: &[u8], out: &mut [u8; MOST_OUTPUT]) -> usize
-    ensures { λ r. ⌜ (r ≡ length (output (decode current (now (sheet .entry))))) × (r ≤ mostOutput) × (now (out .exit) ≡ written (output (decode current (now (sheet .entry)))) (now (out .entry))) ⌝ }
+    ensures { λ r. ⌜ (r ≡ length (output current (decode current (now (sheet .entry))))) × (r ≤ mostOutput) × (now (out .exit) ≡ written (output current (decode current (now (sheet .entry)))) (now (out .entry))) ⌝ }
     ensures { λ r. ⌜ (r ≤ length (now (out .exit))) × (r ≡ length (take r (now (out .exit)))) ⌝ }
 {
     let mut side = [0u8; SIDE_LENGTH];

@@ -34,7 +34,7 @@ module _ (f : Format) (sheet side report : Bytes) where
       reading-is = rw (le-ltb (length side) 32 enough, le-ltb (length report) (reportLength f) room)
 
       -- where what is owed of the answer is owed of the bytes written
-      pub sheet-decides : ((net : Network) → decode f sheet ≡ accepted net [] → Owed net (answerRead f (net .nodes) (sideAfter net side) (reportAfter f net report)))
+      pub sheet-decides : ((net : Network) → decode f sheet ≡ accepted net [] → Owed (f .counting) net (answerRead f (net .nodes) (sideAfter net side) (reportAfter f net report)))
           → (side′ report′ : Bytes) (n : ℕ) → n ≡ numberOf (decode f sheet) → side′ ≡ sideLeft side (decode f sheet) → report′ ≡ reportLeft f report (decode f sheet)
           → Reported f sheet side report side′ report′ n
       sheet-decides owed side′ report′ n e s r = record {

@@ -39,4 +39,4 @@ pub record Reported (f : Format) (sheet side report side′ report′ : Bytes) (
   pub side-is : side′ ≡ sideLeft side (reading f sheet side report)
   pub report-is : report′ ≡ reportLeft f report (reading f sheet side report)
   -- demands 2 and 3, of the network that the sheet gives and of what is read back from the bytes of the areas
-  pub owed : n ≡ 0 → (net : Network) × (decode f sheet ≡ accepted net []) × Owed net (answerRead f (net .nodes) side′ report′)
+  pub owed : n ≡ 0 → (net : Network) × (decode f sheet ≡ accepted net []) × Owed (f .counting) net (answerRead f (net .nodes) side′ report′)

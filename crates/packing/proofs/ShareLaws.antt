@@ -1,33 +1,34 @@
--- A tree's share added to the loads of its members, link by link, the trees of a sheet added one after another, and the floor from the
--- loads and shares so worked out. Assumes nothing.
-use Prim.Native.Nat.{ℕ, zero, suc, _+_, _*_, _≤_, _<_, min}
-use mathlib.Core.Path.{_≡_, refl, sym, _∙_}
-use mathlib.Core.Bool.{Bool, true, false, cond}
+-- A tree's share added to the loads of its members, link by link, and the trees of a sheet counted one after another, over plain lists:
+-- while no tree has overloaded a link the loads are those of the trees so far, none past its link's weight; the first tree that would
+-- overload one ends the run, which then is the longest. Assumes nothing.
+use Prim.Native.Nat.{ℕ, zero, suc, _+_, _*_, _≤_, _<_}
+use mathlib.Core.Path.{_≡_, refl, sym, ap, _∙_, subst}
+use mathlib.Core.Logic.{_⊎_, inl, inr}
+use mathlib.Core.Bool.{Bool, true, false, not, and-false, and-eq-true-iff}
 use mathlib.Core.List.{List, [], _∷_, _++_}
 use native.Mathlib.Nat.{add-zero, zero-mul, suc-mul}
 use native.Mathlib.Numerals.{add-one}
 use native.Mathlib.Decide.{decLt}
 use native.Mathlib.Omega.{arith}
-use lib.Dec.{ltb}
 use lib.ListN.{length, set, take, drop, replicate, length-replicate}
 use lib.Seq.{getD-set-same, getD-set-other, drop-drop}
+use lib.Dec.{ltb}
+use borrow.Author.Tests.{ltb-true, lt-ltb, le-ltb, not-true, not-false}
 use Rattle.cuts.specs.Sums.{only, anyTo, table}
-use Rattle.cuts.specs.Network.{Tree, Network, linkAt, linkCount}
-use Rattle.cuts.specs.Bound.{floor, load, overloaded, shares}
-use Rattle.cuts.proofs.SumLaws.{all-suc, anyTo-congr, table-at}
+use Rattle.cuts.specs.Network.{Tree, Network, linkCount}
+use Rattle.cuts.specs.Bound.{load, shares, Overloads, LongestRun, longestRun, counted}
+use Rattle.cuts.proofs.FlagLaws.{clash, truth}
+use Rattle.cuts.proofs.SumLaws.{all-suc, only-none, anyTo-some, anyTo-at, table-at, table-length, take-table}
 use Rattle.cuts.proofs.LoadLaws.{load-append, shares-append}
+use Rattle.cuts.proofs.CountedLaws.{counted-run}
 use Rattle.trees.specs.Order.{entry}
 use Rattle.sheet.specs.Bytes.{Bytes, number, mapBit}
 use Rattle.sheet.specs.Sheet.{mapLength, treeLength, treeIn}
 use Rattle.reader.specs.Answers.{treesFrom}
 use Rattle.reader.proofs.TreeLaws.{members-at, treesFrom-more, record-inside}
+use Rattle.packing.specs.Loads.{Weighed, overfull, Added, mostShares, Tallied, Counted}
 
 -- ---- one tree's share
-
--- below k the loads `after` are those `before` with the share at each link whose bit is set, and from k on the same
-pub record Added (map : Bytes) (share : ℕ) (before after : List ℕ) (k : ℕ) : Type 0 where
-  pub below : (j : ℕ) → j < k → entry after j ≡ entry before j + only (mapBit map j) share
-  pub above : (j : ℕ) → k ≤ j → entry after j ≡ entry before j
 
 pub added-none : (map : Bytes) (share : ℕ) (loads : List ℕ) → Added map share loads loads 0
 added-none map share loads = record { below = λ j b. absurd (omega arith); above = λ j b. refl }
@@ -48,6 +49,32 @@ module _ {map : Bytes} {share : ℕ} {before after : List ℕ} {k : ℕ} (a : Ad
         (rw (h, add-zero) (a .above k (omega arith))));
     above = λ j c. a .above j (omega arith);
   }
+
+-- a share of 0 alters no load
+pub added-zero : (map : Bytes) (loads : List ℕ) (links : ℕ) → Added map 0 loads loads links
+added-zero map loads links = record { below = λ j b. let e = only-none (mapBit map j) in omega arith; above = λ j b. refl }
+
+-- ---- the test of one tree
+
+module _ (map : Bytes) (share : ℕ) (ws loads : List ℕ) where
+  pub overfull-set : (k : ℕ) → mapBit map k ≡ true → entry ws k < entry loads k + share → overfull map share ws loads k ≡ true
+  overfull-set k h l = rw h (lt-ltb _ _ l)
+
+  pub overfull-room : (k : ℕ) → entry loads k + share ≤ entry ws k → overfull map share ws loads k ≡ false
+  overfull-room k l = rw (le-ltb _ _ l) (and-false (mapBit map k))
+
+  pub overfull-unset : (k : ℕ) → mapBit map k ≡ false → overfull map share ws loads k ≡ false
+  overfull-unset k h = rw h
+
+  -- where no member is overfull, each load with the share is within its link's weight
+  pub has-room : (links : ℕ) → anyTo links (overfull map share ws loads) ≡ false → (k : ℕ) → k < links → entry loads k ≤ entry ws k
+      → entry loads k + only (mapBit map k) share ≤ entry ws k
+  has-room links none k b l = step (truth (mapBit map k)) (decLt (entry ws k) (entry loads k + share))
+    where
+      step : (mapBit map k ≡ true) ⊎ (mapBit map k ≡ false) → Dec (entry ws k < entry loads k + share) → entry loads k + only (mapBit map k) share ≤ entry ws k
+      step (inl e) (yes h) = clash (anyTo-at links (overfull map share ws loads) k b (overfull-set k e h)) none
+      step (inl e) (no h) = rw e (omega arith)
+      step (inr e) h = rw e (omega arith)
 
 -- ---- one tree more
 
@@ -74,12 +101,12 @@ module _ (net : Network) (s map : Bytes) (at place i : ℕ) (here : place ≡ at
   shares-next : shares (treesFrom net (i + 1) (drop at s)) ≡ shares (treesFrom net i (drop at s)) + number 4 (drop place s)
   shares-next = rw (trees-next, shares-append (treesFrom net i (drop at s)) (treeIn net (drop place s)), share-is)
 
--- after the first i of the tree records from the position `at` on: `place` is the position behind them, and the loads and the sum are
--- theirs; no share is above 2^32 - 1
-pub record Loaded (s : Bytes) (at links : ℕ) (loads : List ℕ) (sum place i : ℕ) : Type 0 where
+-- the first i of the tree records from the position `at` on count: `place` is the position behind them, the loads and the sum are theirs,
+-- and no load is past its link's weight; no share is above 2^32 - 1
+pub record Loaded (s : Bytes) (ws : List ℕ) (at links : ℕ) (loads : List ℕ) (sum place i : ℕ) : Type 0 where
   pub placed : place ≡ at + i * treeLength links
   pub sized : length loads ≡ 2048
-  pub light : (k : ℕ) → entry loads k ≤ i * 4_294_967_295
+  pub carried : (k : ℕ) → k < links → entry loads k ≤ entry ws k
   pub small : sum ≤ i * 4_294_967_295
   pub bears : (net : Network) → linkCount net ≡ links → (k : ℕ) → k < links → entry loads k ≡ load (treesFrom net i (drop at s)) k
   pub adds : (net : Network) → linkCount net ≡ links → sum ≡ shares (treesFrom net i (drop at s))
@@ -89,53 +116,144 @@ entry-replicate zero k = refl
 entry-replicate (suc n) zero = refl
 entry-replicate (suc n) (suc k) = entry-replicate n k
 
-pub loaded-none : (s : Bytes) (at links n : ℕ) → n ≡ 2048 → Loaded s at links (replicate n 0) 0 at 0
+pub loaded-none : (s : Bytes) (ws : List ℕ) (at links n : ℕ) → n ≡ 2048 → Loaded s ws at links (replicate n 0) 0 at 0
 unfolding treesFrom table load shares
-loaded-none s at links n e = record {
+loaded-none s ws at links n e = record {
   placed = rw zero-mul (omega arith);
   sized = length-replicate {A = ℕ} n 0 ∙ e;
-  light = λ k. omega (arith, entry-replicate n k);
+  carried = λ k _. omega (arith, entry-replicate n k);
   small = omega arith;
   bears = λ net _ k _. entry-replicate n k;
   adds = λ net _. refl;
 }
 
-module _ {s : Bytes} {at links : ℕ} {loads : List ℕ} {sum place i : ℕ} (l : Loaded s at links loads sum place i) where
+-- with tree i some link is loaded past its weight
+abbrev Overfilled : Bytes → List ℕ → ℕ → ℕ → ℕ → Type 0
+Overfilled s ws at links i = (net : Network) → Weighed net links ws → Overloads net (treesFrom net (i + 1) (drop at s))
+
+module _ {s : Bytes} {ws : List ℕ} {at links : ℕ} {loads : List ℕ} {sum place i : ℕ} (l : Loaded s ws at links loads sum place i) where
   -- the next of `trees` records ends within the sheet
   pub record-within : (trees : ℕ) → i < trees → at + trees * treeLength links ≤ length s → place + treeLength links ≤ length s
   record-within trees b h = let r = record-inside at trees (treeLength links) (length s) i h b in let p = l .placed in omega arith
 
-  pub loaded-more : (map : Bytes) (share : ℕ) (next : List ℕ) (end : ℕ) → map ≡ take (mapLength links) (drop (place + 4) s)
-      → place + treeLength links ≤ length s → share ≡ number 4 (drop place s) → share < 4_294_967_296 → Added map share loads next links
-      → length next ≡ length loads → end ≡ place + treeLength links → Loaded s at links next (sum + share) end (i + 1)
-  loaded-more map share next end slice whole is low a same e = record {
-    placed = rw (add-one, suc-mul) (let p = l .placed in omega arith);
+  module _ {map : Bytes} {share : ℕ} (slice : map ≡ take (mapLength links) (drop (place + 4) s)) (whole : place + treeLength links ≤ length s)
+      (is : share ≡ number 4 (drop place s)) where
+    bears-more : (net : Network) → linkCount net ≡ links → (k : ℕ) → k < links
+        → entry loads k + only (mapBit map k) share ≡ load (treesFrom net (i + 1) (drop at s)) k
+    bears-more net n k b = rw (l .bears net n k b, is) (sym (load-next net s map at place i (rw n (l .placed)) (rw n slice) (rw n whole) k (rw n b)))
+
+    -- the next tree counts
+    pub loaded-more : share < 4_294_967_296 → anyTo links (overfull map share ws loads) ≡ false → (next : List ℕ) → Added map share loads next links
+        → length next ≡ length loads → (end : ℕ) → end ≡ place + treeLength links → Loaded s ws at links next (sum + share) end (i + 1)
+    loaded-more low none next a same end e = record {
+      placed = rw (add-one, suc-mul) (let p = l .placed in omega arith);
+      sized = same ∙ l .sized;
+      carried = λ k b. rw (a .below k b) (has-room map share ws loads links none k b (l .carried k b));
+      small = let b = l .small in omega arith;
+      bears = λ net n k b. a .below k b ∙ bears-more net n k b;
+      adds = λ net n. rw (l .adds net n, is) (sym (shares-next net s map at place i (rw n (l .placed)) (rw n slice) (rw n whole)));
+    }
+
+    -- or it would load a link past its weight
+    pub overfilled : anyTo links (overfull map share ws loads) ≡ true → Overfilled s ws at links i
+    overfilled some net w =
+        let r = anyTo-some links (overfull map share ws loads) some in
+        let k : ℕ = r .0 in
+        let h = and-eq-true-iff (mapBit map k) (ltb (entry ws k) (entry loads k + share)) .0 (r .2) in
+        let o : entry ws k < entry loads k + share = ltb-true _ _ (h .1) in
+        let e : entry loads k + share ≡ load (treesFrom net (i + 1) (drop at s)) k =
+        ap (λ (c : Bool). entry loads k + only c share) (sym (h .0)) ∙ bears-more net (w .counted) k (r .1) in
+        (k, rw (w .counted) (r .1), omega (arith, w .weights k (r .1)))
+
+  -- and the loads stay
+  pub loaded-same : (map : Bytes) (next : List ℕ) → Added map 0 loads next links → length next ≡ length loads → Loaded s ws at links next sum place i
+  loaded-same map next a same = record {
+    placed = l .placed;
     sized = same ∙ l .sized;
-    light = λ k. let b = l .light k in omega (arith, risen k (decLt k links));
-    small = let b = l .small in omega arith;
-    bears = λ net n k b.
-        a .below k b ∙ rw (l .bears net n k b, is) (sym (load-next net s map at place i (rw n (l .placed)) (rw n slice) (rw n whole) k (rw n b)));
-    adds = λ net n. rw (l .adds net n, is) (sym (shares-next net s map at place i (rw n (l .placed)) (rw n slice) (rw n whole)));
+    carried = λ k b. let e = kept k b in let c = l .carried k b in omega arith;
+    small = l .small;
+    bears = λ net n k b. kept k b ∙ l .bears net n k b;
+    adds = l .adds;
   }
     where
-      most : (b : Bool) → only b share ≤ share
-      most true = omega arith
-      most false = omega arith
+      kept : (k : ℕ) → k < links → entry next k ≡ entry loads k
+      kept k b = let e = a .below k b in let z = only-none (mapBit map k) in omega arith
 
-      risen : (k : ℕ) → Dec (k < links) → entry next k ≤ entry loads k + share
-      risen k (yes b) = omega (arith, a .below k b, most (mapBit map k))
-      risen k (no b) = omega (arith, a .above k (omega arith))
+-- ---- the trees that count
 
--- ---- the floor
+module _ (net : Network) (s : Bytes) (at trees : ℕ) where
+  first-trees : (n : ℕ) → n ≤ trees → take n (treesFrom net trees (drop at s)) ≡ treesFrom net n (drop at s)
+  unfolding treesFrom
+  first-trees n b = take-table trees n (λ j. treeIn net (drop (j * treeLength (linkCount net)) (drop at s))) b
 
--- from lists of the loads and the weights
-pub floor-entries : (net : Network) (ts : List Tree) (links : ℕ) (loads weights : List ℕ) (w : ℕ) → linkCount net ≡ links
-    → ((k : ℕ) → k < links → entry loads k ≡ load ts k) → ((k : ℕ) → k < links → linkAt net k .weight ≡ entry weights k)
-    → cond (anyTo links (λ k. ltb (entry weights k) (entry loads k))) 0 (min w (3 * shares ts)) ≡ floor net ts w
-unfolding floor overloaded
-floor-entries net ts links loads weights w n bears weigh =
-    rw (
-      n,
-      anyTo-congr links (λ k. ltb (entry weights k) (entry loads k)) (λ k. ltb (linkAt net k .weight) (load ts k))
-          (λ k b. rw (bears k b, weigh k b)),
-    )
+  trees-length : length (treesFrom net trees (drop at s)) ≡ trees
+  unfolding treesFrom
+  trees-length = table-length trees (λ j. treeIn net (drop (j * treeLength (linkCount net)) (drop at s)))
+
+module _ {s : Bytes} {ws : List ℕ} {at links : ℕ} {loads : List ℕ} {sum place n : ℕ} (trees : ℕ) (l : Loaded s ws at links loads sum place n) where
+  tallied : n ≤ trees → (net : Network) → Weighed net links ws → (n ≡ trees) ⊎ Overloads net (take (suc n) (treesFrom net trees (drop at s)))
+      → Tallied net (treesFrom net trees (drop at s)) links loads sum
+  tallied b net w full =
+      let ts : List Tree = treesFrom net trees (drop at s) in
+      let e : take n ts ≡ treesFrom net n (drop at s) = first-trees net s at trees n b in
+      let c : counted longestRun net ts ≡ treesFrom net n (drop at s) = counted-run net ts n (run ts (trees-length net s at trees) e full) ∙ e in
+      record { sums = rw c (l .adds net (w .counted)); bears = λ k h. rw c (l .bears net (w .counted) k h) }
+    where
+      run : (ts : List Tree) → length ts ≡ trees → take n ts ≡ treesFrom net n (drop at s) → (n ≡ trees) ⊎ Overloads net (take (suc n) ts) → LongestRun net ts n
+      run ts m e f = record {
+        listed = rw m b;
+        packed = λ k c.
+            let h : k < links = rw (w .counted) at c in
+            rw e (let x = l .bears net (w .counted) k h in let y = w .weights k h in let z = l .carried k h in omega arith);
+        full = rw m f;
+      }
+
+  -- all trees count
+  pub all-tallied : n ≡ trees → (net : Network) → Weighed net links ws → Tallied net (treesFrom net trees (drop at s)) links loads sum
+  all-tallied e net w = tallied (omega arith) net w (inl e)
+
+  -- or the run ends at tree n
+  pub run-tallied : n < trees → Overfilled s ws at links n → (net : Network) → Weighed net links ws → Tallied net (treesFrom net trees (drop at s)) links loads sum
+  run-tallied b o net w =
+      tallied (omega arith) net w
+      (inr (subst (Overloads net) (ap (λ (i : ℕ). treesFrom net i (drop at s)) (add-one n) ∙ sym (first-trees net s at trees (suc n) b)) (o net w)))
+
+-- ---- how far counting is
+
+-- the trees before i count, or the run ended at the tree before i, which is `stop`
+pub data Progress (s : Bytes) (ws : List ℕ) (at links trees : ℕ) (loads : List ℕ) (sum place stop i : ℕ) : Type 0 where
+  going : Loaded s ws at links loads sum place i → stop ≡ trees → i ≤ trees → Progress s ws at links trees loads sum place stop i
+  ended : (p : ℕ) → Loaded s ws at links loads sum p stop → Overfilled s ws at links stop → stop < trees → i ≡ stop + 1
+      → Progress s ws at links trees loads sum place stop i
+
+module _ {s : Bytes} {ws : List ℕ} {at links trees : ℕ} {loads : List ℕ} {sum place stop i : ℕ} where
+  pub still-going : Progress s ws at links trees loads sum place stop i → i < stop → Loaded s ws at links loads sum place i × (stop ≡ trees)
+  still-going (going l e b) m = (l, e)
+  still-going (ended p l o b e) m = absurd (omega arith)
+
+  pub sum-small : Progress s ws at links trees loads sum place stop i → trees ≤ 32 → sum ≤ mostShares
+  sum-small (going l e b) m = let a = l .small in omega arith
+  sum-small (ended p l o b e) m = let a = l .small in omega arith
+
+  pub loads-sized : Progress s ws at links trees loads sum place stop i → length loads ≡ 2048
+  loads-sized (going l e b) = l .sized
+  loads-sized (ended p l o b e) = l .sized
+
+  pub all-counted : Progress s ws at links trees loads sum place stop i → stop ≤ i → trees ≤ 32 → Counted s at links trees ws loads sum
+  all-counted p m few = record { tallied = by-case p; most = sum-small p few }
+    where
+      by-case : Progress s ws at links trees loads sum place stop i → (net : Network) → Weighed net links ws → Tallied net (treesFrom net trees (drop at s)) links loads sum
+      by-case (going l e b) = all-tallied trees l (omega arith)
+      by-case (ended q l o b e) = run-tallied trees l b o
+
+-- a turn: the next tree was tested, and its share added where it counts
+module _ {s : Bytes} {ws : List ℕ} {at links : ℕ} {loads : List ℕ} {sum place i : ℕ} (l : Loaded s ws at links loads sum place i)
+    {map : Bytes} {share : ℕ} (slice : map ≡ take (mapLength links) (drop (place + 4) s)) (whole : place + treeLength links ≤ length s)
+    (is : share ≡ number 4 (drop place s)) {counts : Bool} (tested : counts ≡ not (anyTo links (overfull map share ws loads)))
+    {next : List ℕ} (a : Added map (only counts share) loads next links) (same : length next ≡ length loads) {trees : ℕ} (more : i < trees) (end : ℕ) where
+  pub turn-counts : counts ≡ true → share < 4_294_967_296 → end ≡ place + treeLength links → {stop : ℕ} → stop ≡ trees
+      → Progress s ws at links trees next (sum + share) end stop (i + 1)
+  turn-counts h low e f = going (loaded-more l slice whole is low (not-true _ (sym tested ∙ h)) next (rw h at a) same end e) f (omega arith)
+
+  pub turn-ends : counts ≡ false → Progress s ws at links trees next sum end i (i + 1)
+  turn-ends h = ended place (loaded-same l map next (rw h at a) same) (overfilled l slice whole is (not-false _ (sym tested ∙ h))) more refl

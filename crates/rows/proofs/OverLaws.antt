@@ -11,7 +11,7 @@ use lib.Dec.{eqb, leb, ltb}
 use borrow.Author.Tests.{leb-true, leb-false, ltb-true, ltb-false, le-leb, lt-leb, lt-ltb, le-ltb, ne-eqb}
 use Rattle.cuts.specs.Sums.{sumTo, only}
 use Rattle.cuts.proofs.FlagLaws.{truth, clash}
-use Rattle.cuts.proofs.SumLaws.{sum-congr, sum-add, sum-zero, sum-only, sum-swap, sum-single}
+use Rattle.cuts.proofs.SumLaws.{only-none, sum-congr, sum-add, sum-zero, sum-only, sum-swap, sum-single}
 use Rattle.places.specs.Kept.{within}
 use Rattle.rows.specs.Rows.{sumOver}
 
@@ -49,10 +49,6 @@ within-join u v s p w a b = go (decLt p v) (decLt p u) (decLt p s)
     go (no c) _ (no e) = rw (within-behind u s p (omega arith), within-behind u v p (omega arith), within-behind v s p (omega arith))
 
 -- ---- sums over a run
-
-only-none : (b : Bool) → only b 0 ≡ 0
-only-none true = refl
-only-none false = refl
 
 only-swap : (b c : Bool) (w : ℕ) → only b (only c w) ≡ only c (only b w)
 only-swap true c w = refl

@@ -87,7 +87,10 @@ fields-reportWidths f bs =
 -- ---- the answer of an accepted sheet
 
 module _ {f : Format} (net : Network) (v : Accepted f net) where
-  links-below : (h : Handle) → Fits net (treeAt net (answer net .best .tree)) h → LinksBelow noSecond h
+  abbrev given : Answer
+  given = answer (f .counting) net
+
+  links-below : (h : Handle) → Fits net (treeAt net (given .best .tree)) h → LinksBelow noSecond h
   links-below (one e) m = let b = m .is-link in let c = v .links-most in omega arith
   links-below (two e f) m = let b = m .1 .is-link in let d = m .2 .is-link in let c = v .links-most in (omega arith, omega arith)
 
@@ -95,9 +98,9 @@ module _ {f : Format} (net : Network) (v : Accepted f net) where
   links-small (one e) b = (omega arith, omega arith)
   links-small (two e f) b = (omega arith, omega arith)
 
-  verdict-most : answer net .verdict ≤ 2
+  verdict-most : given .verdict ≤ 2
   unfolding answer judged
-  verdict-most = step (eqb (answer net .floor) (answer net .best .weight))
+  verdict-most = step (eqb (given .floor) (given .best .weight))
     where
       step : (b : Bool) → _≤_ (cond b 2 1) 2
       step true = omega arith
@@ -112,34 +115,34 @@ module _ {f : Format} (net : Network) (v : Accepted f net) where
 
   -- where the report has bytes enough for the weight of every side
   module _ (fits : (s : Side) → cutWeight net s < 256 ^ f .sumWidth) where
-    answer-fitting : Fitting (reportWidths f) (reportFields (answer net))
+    answer-fitting : Fitting (reportWidths f) (reportFields given)
     answer-fitting =
-        let d2 = answer-demand2 net (v .sound) in
-        let d3 = answer-demand3 net (v .sound) in
+        let d2 = answer-demand2 net (v .sound) (f .counting) in
+        let d3 = answer-demand3 net (v .sound) (f .counting) in
         let n = v .nodes-most in
         let m = v .links-most in
         let t = v .trees-most in
         let tree = d2 .tree-listed in
         let count = d2 .count-is in
         let full = d3 .proper .not-full in
-        let links = links-small (answer net .best .handle) (links-below (answer net .best .handle) (d2 .links-fit)) in
+        let links = links-small (given .best .handle) (links-below (given .best .handle) (d2 .links-fit)) in
         let weight = d3 .own-weight in
-        let most = fits (answer net .best .side) in
-        let bound = d3 .floor-bounds (answer net .best .side) (d3 .proper) in
+        let most = fits (given .best .side) in
+        let bound = d3 .floor-bounds (given .best .side) (d3 .proper) in
         let verdict = verdict-most in
         (omega arith, (omega arith, (omega arith, (links .0, (links .1, (omega arith, (omega arith, tt)))))))
 
     -- what stands in the areas afterwards is the answer
-    pub answer-back : (side report : Bytes) → answerRead f (net .nodes) (sideAfter net side) (reportAfter f net report) ≡ answer net
+    pub answer-back : (side report : Bytes) → answerRead f (net .nodes) (sideAfter net side) (reportAfter f net report) ≡ answer (f .counting) net
     unfolding answer judged
     answer-back side report =
-        let d2 = answer-demand2 net (v .sound) in
-        answerRead-written f (net .nodes) (answer net) side report (answer-demand3 net (v .sound) .proper .sized) (v .nodes-most)
-        (links-below (answer net .best .handle) (d2 .links-fit)) answer-fitting
+        let d2 = answer-demand2 net (v .sound) (f .counting) in
+        answerRead-written f (net .nodes) given side report (answer-demand3 net (v .sound) (f .counting) .proper .sized) (v .nodes-most)
+        (links-below (given .best .handle) (d2 .links-fit)) answer-fitting
 
     -- and what is owed of the answer is owed of what stands there
-    pub areas-owed : (side report : Bytes) → Owed net (answerRead f (net .nodes) (sideAfter net side) (reportAfter f net report))
-    areas-owed side report = rw (answer-back side report) (answer-owed net (v .sound))
+    pub areas-owed : (side report : Bytes) → Owed (f .counting) net (answerRead f (net .nodes) (sideAfter net side) (reportAfter f net report))
+    areas-owed side report = rw (answer-back side report) (answer-owed net (v .sound) (f .counting))
 
 -- ---- from the bytes of the sheet to the bytes of the areas
 
@@ -148,15 +151,15 @@ module _ (sheet : Bytes) (bytes : ByteSized sheet) (net : Network) (rest : Bytes
   weights-fit : (s : Side) → cutWeight net s < 256 ^ current .sumWidth
   weights-fit s = let m = side-most net (decode-light current refl sheet bytes net rest e .0) s in omega arith
 
-  pub sheet-back : answerRead current (net .nodes) (sideAfter net side) (reportAfter current net report) ≡ answer net
+  pub sheet-back : answerRead current (net .nodes) (sideAfter net side) (reportAfter current net report) ≡ answer (current .counting) net
   sheet-back = answer-back net (decode-accepted current sheet net rest e) weights-fit side report
 
-  pub sheet-owed : Owed net (answerRead current (net .nodes) (sideAfter net side) (reportAfter current net report))
+  pub sheet-owed : Owed (current .counting) net (answerRead current (net .nodes) (sideAfter net side) (reportAfter current net report))
   sheet-owed = areas-owed net (decode-accepted current sheet net rest e) weights-fit side report
 
 -- in document 01's format four bytes are enough, by the largest weight
 module _ (sheet : Bytes) (net : Network) (rest side report : Bytes) where
-  pub sold-owed : decode base sheet ≡ accepted net rest → Owed net (answerRead base (net .nodes) (sideAfter net side) (reportAfter base net report))
+  pub sold-owed : decode base sheet ≡ accepted net rest → Owed (base .counting) net (answerRead base (net .nodes) (sideAfter net side) (reportAfter base net report))
   sold-owed e =
       let v = decode-accepted base sheet net rest e in
       areas-owed net v (λ s. let m = sides-most net v s in omega arith) side report

@@ -1,9 +1,12 @@
--- Document 01's "Networks to try" and what else its words pin down, proved of the definitions together by computing four tables.
+-- Document 01's "Networks to try" and what else its words pin down, proved of the definitions together by computing tables.
 --   Case             a sheet, the numbers of its answer line, with 65535 for `-`, and the nodes of its side line
 --   starred          the starred networks A to H, H with each of its shares
 --   others           network I, inherited fields, maps of a full byte and of two, and the largest numbers
 --   heavier          sheets with weights past document 01's limit
---   reported f bs    the sheet bs and what both areas of the format f hold after it, read back from their bytes
+--   inAreas f bs     the sheet bs and what both areas of the format f hold after it, read back from their bytes
+--   Recounted        a sheet, the numbers of its answer line by document 01's rule for the floor and by that of F-3, and the side line's
+--   overloading      sheets whose trees load a link past its weight together
+--   recounted bs     the sheet bs and these lines: in the format of F-2, and in that in force
 --   Layout           a sheet and the bytes of both areas
 --   layouts          the bytes of both areas for A, E and F in document 01's format, in areas of 33 and 18 bytes that were full of nines
 --   wideLayouts      those for E, F and two sheets with heavier links in the format in force, the report area of 26 bytes
@@ -21,7 +24,7 @@ use Rattle.cuts.specs.Network.{Network, flag}
 use Rattle.cuts.specs.Answer.{Answer, answer}
 use Rattle.sheet.specs.Bytes.{Bytes}
 use Rattle.sheet.specs.Reading.{accepted, refused, numberOf}
-use Rattle.sheet.specs.Sheet.{Format, base, current, decode, sheetMost}
+use Rattle.sheet.specs.Sheet.{Format, base, wide, current, decode, sheetMost}
 use Rattle.sheet.specs.Areas.{sideBytes, reportBytes, sideAfter, reportAfter, answerRead, firstLink, secondLink}
 
 -- ---- sheets of small numbers: a header, link records with all fields, and a tree record with a map of one byte
@@ -45,11 +48,14 @@ ring trees = header 4 4 trees ++ link 0 1 1 ++ link 1 2 1 ++ link 2 3 1 ++ link 
 abbrev thickRing : Bytes
 thickRing = header 3 3 1 ++ link 0 1 1 ++ link 1 2 1 ++ link 0 2 10
 
-abbrev ladder : Bytes
-ladder = header 4 5 1 ++ link 0 1 1 ++ link 1 2 1 ++ link 2 3 1 ++ link 0 2 10 ++ link 1 3 10
+abbrev ladder : ℕ → Bytes
+ladder trees = header 4 5 trees ++ link 0 1 1 ++ link 1 2 1 ++ link 2 3 1 ++ link 0 2 10 ++ link 1 3 10
+
+abbrev bridges : ℕ → ℕ → Bytes
+bridges w trees = header 2 1 trees ++ link 0 1 w
 
 abbrev bridge : ℕ → Bytes
-bridge w = header 2 1 1 ++ link 0 1 w
+bridge w = bridges w 1
 
 -- links 1-0:2, 1-2:2 and 1-2:2, of which the second has only its second end and the third no field
 abbrev inherited : Bytes
@@ -58,6 +64,10 @@ inherited = header 3 3 1 ++ link 1 0 2 ++ 2 ∷ 2 ∷ 0 ∷ 0 ∷ []
 -- m parallel links of weight 1
 abbrev parallel : ℕ → Bytes → Bytes
 parallel m rest = header 2 m 1 ++ link 0 1 1 ++ rest
+
+-- two parallel links of weight 9
+abbrev parallelNines : ℕ → Bytes
+parallelNines trees = header 2 2 trees ++ link 0 1 9 ++ link 0 1 9
 
 -- a link of weight 1,000,001 between x and y
 abbrev heavy : ℕ → ℕ → Bytes
@@ -97,7 +107,7 @@ starred =
     -- E: a ring whose lightest cut crosses two tree links
     ∷ gives (thickRing ++ tree 1 3) (2 ∷ 2 ∷ 2 ∷ 0 ∷ 0 ∷ 1 ∷ 1 ∷ []) (1 ∷ [])
     -- F: a lighter side, of nodes 1 and 3, crosses three tree links
-    ∷ gives (ladder ++ tree 1 7) (1 ∷ 11 ∷ 3 ∷ 0 ∷ 0 ∷ 65535 ∷ 3 ∷ []) (1 ∷ 2 ∷ 3 ∷ [])
+    ∷ gives (ladder 1 ++ tree 1 7) (1 ∷ 11 ∷ 3 ∷ 0 ∷ 0 ∷ 65535 ∷ 3 ∷ []) (1 ∷ 2 ∷ 3 ∷ [])
     -- G: a link of weight 0
     ∷ gives (bridge 0 ++ tree 7 1) (2 ∷ 0 ∷ 0 ∷ 0 ∷ 0 ∷ 65535 ∷ 1 ∷ []) (1 ∷ [])
     -- H: a link of weight 4, share 1
@@ -128,9 +138,8 @@ heavier : List Case
 heavier =
     -- weight 1,000,001
     gives (header 2 1 1 ++ heavy 0 1 ++ tree 1 1) (1 ∷ 1000001 ∷ 3 ∷ 0 ∷ 0 ∷ 65535 ∷ 1 ∷ []) (1 ∷ [])
-    -- two links of the largest weight: a tree of the largest share, then two of them, which overload their link
+    -- two links of the largest weight, and a tree of the largest share
     ∷ gives (largestPair 1 ++ largest ++ 1 ∷ []) (2 ∷ 8589934590 ∷ 8589934590 ∷ 0 ∷ 0 ∷ 65535 ∷ 1 ∷ []) (1 ∷ [])
-    ∷ gives (largestPair 2 ++ largest ++ 1 ∷ largest ++ 1 ∷ []) (1 ∷ 8589934590 ∷ 0 ∷ 0 ∷ 0 ∷ 65535 ∷ 1 ∷ []) (1 ∷ [])
     ∷ []
 
 abbrev caseOf : Bytes → Network → Answer → Case
@@ -140,18 +149,54 @@ caseOf bs net a =
     ∷ a .count ∷ [])
     (select (net .nodes) (flag (a .best .side)))
 
-reported : Format → Bytes → Case
+inAreas : Format → Bytes → Case
 unfolding decode answer answerRead sideBytes reportBytes select
-reported f bs =
+inAreas f bs =
     elim (decode f bs) [ accepted net rest ↦ caseOf bs net (answerRead f (net .nodes) (sideAfter net []) (reportAfter f net [])) | refused n ↦ gives bs (n ∷ []) [] ]
 
-sold-reported : map (λ c. reported base (c .sheet)) (starred ++ others) ≡ starred ++ others
-unfolding starred others reported
+sold-reported : map (λ c. inAreas base (c .sheet)) (starred ++ others) ≡ starred ++ others
+unfolding starred others inAreas
 sold-reported = refl
 
-current-reported : map (λ c. reported current (c .sheet)) (starred ++ others ++ heavier) ≡ starred ++ others ++ heavier
-unfolding starred others heavier reported
+current-reported : map (λ c. inAreas current (c .sheet)) (starred ++ others ++ heavier) ≡ starred ++ others ++ heavier
+unfolding starred others heavier inAreas
 current-reported = refl
+
+-- ---- the trees that count
+
+record Recounted : Type 0 where
+  sheet : Bytes
+  sold : List ℕ
+  line : List ℕ
+  nodes : List ℕ
+
+abbrev recounts : Bytes → List ℕ → List ℕ → List ℕ → Recounted
+recounts bs sold line nodes = record { sheet = bs; sold = sold; line = line; nodes = nodes }
+
+overloading : List Recounted
+overloading =
+    -- F-3: "With 0-1:4 and two trees of shares 2 and 3 the floor rises from 0 to 4 and the verdict from 1 to 2"
+    recounts (bridges 4 2 ++ tree 2 1 ++ tree 3 1) (1 ∷ 4 ∷ 0 ∷ 0 ∷ 0 ∷ 65535 ∷ 1 ∷ []) (2 ∷ 4 ∷ 4 ∷ 0 ∷ 0 ∷ 65535 ∷ 1 ∷ []) (1 ∷ [])
+    -- the first tree overloads the link, and no later one counts
+    ∷ recounts (bridges 4 2 ++ tree 5 1 ++ tree 1 1) (1 ∷ 4 ∷ 0 ∷ 0 ∷ 0 ∷ 65535 ∷ 1 ∷ []) (1 ∷ 4 ∷ 0 ∷ 0 ∷ 0 ∷ 65535 ∷ 1 ∷ []) (1 ∷ [])
+    -- of two links of weight 9 the first is loaded with 1 and then with 9 more; behind that stand a share of 0 and a tree of the
+    -- second link, which alone would fit
+    ∷ recounts (parallelNines 4 ++ tree 1 1 ++ tree 9 1 ++ tree 0 1 ++ tree 9 2) (1 ∷ 18 ∷ 0 ∷ 0 ∷ 0 ∷ 65535 ∷ 1 ∷ []) (1 ∷ 18 ∷ 3 ∷ 0 ∷ 0 ∷ 65535 ∷ 1 ∷ []) (1 ∷ [])
+    -- loads of 1 and 8, which are the weight, and then of 1 more
+    ∷ recounts (parallelNines 3 ++ tree 1 1 ++ tree 8 1 ++ tree 1 1) (1 ∷ 18 ∷ 0 ∷ 0 ∷ 0 ∷ 65535 ∷ 1 ∷ []) (2 ∷ 18 ∷ 18 ∷ 0 ∷ 0 ∷ 65535 ∷ 1 ∷ []) (1 ∷ [])
+    -- two links of the largest weight, and two trees of the largest share over one of them
+    ∷ recounts (largestPair 2 ++ largest ++ 1 ∷ largest ++ 1 ∷ []) (1 ∷ 8589934590 ∷ 0 ∷ 0 ∷ 0 ∷ 65535 ∷ 1 ∷ []) (2 ∷ 8589934590 ∷ 8589934590 ∷ 0 ∷ 0 ∷ 65535 ∷ 1 ∷ []) (1 ∷ [])
+    -- F with a second tree, which does not count and is searched: below its link 1 lie nodes 1 and 3
+    ∷ recounts (ladder 2 ++ tree 1 7 ++ tree 9 26) (1 ∷ 3 ∷ 0 ∷ 1 ∷ 1 ∷ 65535 ∷ 2 ∷ []) (2 ∷ 3 ∷ 3 ∷ 1 ∷ 1 ∷ 65535 ∷ 2 ∷ []) (1 ∷ 3 ∷ [])
+    ∷ []
+
+recounted : Bytes → Recounted
+unfolding inAreas
+recounted bs = recounts bs (inAreas wide bs .line) (inAreas current bs .line) (inAreas current bs .nodes)
+
+overloading-recounted : map (λ r. recounted (r .sheet)) overloading ≡ overloading
+unfolding overloading recounted
+overloading-recounted = refl
 
 -- ---- the bytes of the areas
 
@@ -167,14 +212,14 @@ layouts : List Layout
 layouts =
     lays (triangle ++ tree 2 5) (2 ∷ replicate 31 0 ++ 9 ∷ []) (2 ∷ 0 ∷ 1 ∷ 0 ∷ 0 ∷ 0 ∷ 255 ∷ 255 ∷ 5 ∷ 0 ∷ 0 ∷ 0 ∷ 5 ∷ 0 ∷ 0 ∷ 0 ∷ 9 ∷ 9 ∷ [])
     ∷ lays (thickRing ++ tree 1 3) (2 ∷ replicate 31 0 ++ 9 ∷ []) (2 ∷ 0 ∷ 1 ∷ 0 ∷ 0 ∷ 0 ∷ 1 ∷ 0 ∷ 2 ∷ 0 ∷ 0 ∷ 0 ∷ 2 ∷ 0 ∷ 0 ∷ 0 ∷ 9 ∷ 9 ∷ [])
-    ∷ lays (ladder ++ tree 1 7) (14 ∷ replicate 31 0 ++ 9 ∷ []) (1 ∷ 0 ∷ 3 ∷ 0 ∷ 0 ∷ 0 ∷ 255 ∷ 255 ∷ 11 ∷ 0 ∷ 0 ∷ 0 ∷ 3 ∷ 0 ∷ 0 ∷ 0 ∷ 9 ∷ 9 ∷ [])
+    ∷ lays (ladder 1 ++ tree 1 7) (14 ∷ replicate 31 0 ++ 9 ∷ []) (1 ∷ 0 ∷ 3 ∷ 0 ∷ 0 ∷ 0 ∷ 255 ∷ 255 ∷ 11 ∷ 0 ∷ 0 ∷ 0 ∷ 3 ∷ 0 ∷ 0 ∷ 0 ∷ 9 ∷ 9 ∷ [])
     ∷ []
 
 wideLayouts : List Layout
 wideLayouts =
     lays (thickRing ++ tree 1 3) (2 ∷ replicate 31 0 ++ 9 ∷ [])
     (2 ∷ 0 ∷ 1 ∷ 0 ∷ 0 ∷ 0 ∷ 1 ∷ 0 ∷ 2 ∷ 0 ∷ 0 ∷ 0 ∷ 0 ∷ 0 ∷ 0 ∷ 0 ∷ 2 ∷ 0 ∷ 0 ∷ 0 ∷ 0 ∷ 0 ∷ 0 ∷ 0 ∷ 9 ∷ 9 ∷ [])
-    ∷ lays (ladder ++ tree 1 7) (14 ∷ replicate 31 0 ++ 9 ∷ [])
+    ∷ lays (ladder 1 ++ tree 1 7) (14 ∷ replicate 31 0 ++ 9 ∷ [])
     (1 ∷ 0 ∷ 3 ∷ 0 ∷ 0 ∷ 0 ∷ 255 ∷ 255 ∷ 11 ∷ 0 ∷ 0 ∷ 0 ∷ 0 ∷ 0 ∷ 0 ∷ 0 ∷ 3 ∷ 0 ∷ 0 ∷ 0 ∷ 0 ∷ 0 ∷ 0 ∷ 0 ∷ 9 ∷ 9 ∷ [])
     ∷ lays (header 2 1 1 ++ heavy 0 1 ++ tree 1 1) (2 ∷ replicate 31 0 ++ 9 ∷ [])
     (1 ∷ 0 ∷ 1 ∷ 0 ∷ 0 ∷ 0 ∷ 255 ∷ 255 ∷ 65 ∷ 66 ∷ 15 ∷ 0 ∷ 0 ∷ 0 ∷ 0 ∷ 0 ∷ 3 ∷ 0 ∷ 0 ∷ 0 ∷ 0 ∷ 0 ∷ 0 ∷ 0 ∷ 9 ∷ 9 ∷ [])
@@ -268,6 +313,6 @@ numbers-returned = refl
 
 -- ---- the longest sheets: document 01, "The longest sheet has 26,757 bytes"
 
-longest : map (λ f. sheetMost f 2048 32) (base ∷ current ∷ []) ≡ 26757 ∷ 26757 ∷ []
+longest : map (λ f. sheetMost f 2048 32) (base ∷ wide ∷ current ∷ []) ≡ 26757 ∷ 26757 ∷ 26757 ∷ []
 unfolding sheetMost
 longest = refl

@@ -1,4 +1,5 @@
--- A format with a larger largest weight (request F-2): a sheet keeps its outcome unless it was refused by 11. Assumes nothing.
+-- A format with a larger largest weight (request F-2), whatever else of it differs but the fields of a link record: a sheet keeps its
+-- outcome unless it was refused by 11. Assumes nothing.
 use Prim.Native.Nat.{ℕ, _-_, _≤_, _<_}
 use mathlib.Core.Path.{_≡_, refl}
 use mathlib.Core.Bool.{Bool, true, false, _||_, cond}
@@ -8,15 +9,16 @@ use lib.ListN.{length, getD, drop}
 use lib.Dec.{eqb, leb, ltb}
 use borrow.Author.Tests.{ltb-false, le-ltb}
 use Rattle.cuts.specs.Network.{Link, noLink}
+use Rattle.cuts.specs.Bound.{Counting}
 use Rattle.sheet.specs.Bytes.{Bytes}
 use Rattle.sheet.specs.Reading.{Check, check, firstFailing, Reading, accepted, unless, records}
 use Rattle.sheet.specs.Sheet.{Format, headerRecord, fieldStart, recordLength, field, linkIn, shapeChecks, valueChecks, linkRecord, nextLink, treesBehind, decodeBody, decode}
 use Rattle.sheet.proofs.ReadingLaws.{unless-append}
 use Rattle.sheet.proofs.Agree.{Agree, agree-via, agree-unless, agree-andThen, agree-records}
 
-module _ (f : Format) (most total : ℕ) (more : f .weightLimit ≤ most) where
+module _ (f : Format) (most total : ℕ) (rule : Counting) (more : f .weightLimit ≤ most) where
   abbrev raised : Format
-  raised = record { widths = f .widths; weightLimit = most; sumWidth = total }
+  raised = record { widths = f .widths; weightLimit = most; sumWidth = total; counting = rule }
 
   weight-agree : {A : Type 0} (w : ℕ) (r : Reading A)
       → Agree 11 (unless (firstFailing (check 11 (ltb (f .weightLimit) w) ∷ [])) r) (unless (firstFailing (check 11 (ltb most w) ∷ [])) r)

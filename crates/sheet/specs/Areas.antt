@@ -62,7 +62,7 @@ abbrev pub sideAfter : Network → Bytes → Bytes
 sideAfter net old = written (sideBytes (reported net .side)) old
 
 abbrev pub reportAfter : Format → Network → Bytes → Bytes
-reportAfter f net old = written (reportBytes f (answer net)) old
+reportAfter f net old = written (reportBytes f (answer (f .counting) net)) old
 
 -- ---- reading back
 

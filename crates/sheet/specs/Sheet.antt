@@ -1,9 +1,11 @@
 -- The serialised network: from its bytes to the network or the number of the first refusal, 3 to 16 (document 01, "The link sheet",
 -- "Why a sheet is turned down"). Assumes nothing.
---   Format                       the widths of the fields behind a map byte, one for each bit of the map; the largest weight; and the
---                                bytes that the report area has for the weight of a side and for the floor, each
+--   Format                       the widths of the fields behind a map byte, one for each bit of the map; the largest weight; the bytes
+--                                that the report area has for the weight of a side and for the floor, each; and the rule by which
+--                                trees count for the floor
 --   base                         document 01's format, of units already sold
 --   wide                         the format of request F-2
+--   tolerant                     the format of request F-3
 --   current                      the format in force
 --   Counts                       how many nodes, links and trees there are
 --   countsIn sheet               the header's three counts
@@ -41,6 +43,7 @@ use lib.Dec.{eqb, ltb, leb}
 use Rattle.cuts.specs.Sums.{sumTo, only, countTo, anyTo, table}
 use Rattle.cuts.specs.Network.{Link, Tree, Network, noLink, linkAt, linkCount, treeAt}
 use Rattle.cuts.specs.Tree.{Sound, spans}
+use Rattle.cuts.specs.Bound.{Counting, allOrNone, longestRun}
 use Rattle.sheet.specs.Bytes.{Bytes, number, bit, mapBit}
 use Rattle.sheet.specs.Reading.{Check, check, firstFailing, Reading, accepted, unless, andThen, records}
 
@@ -48,16 +51,21 @@ pub record Format : Type 0 where
   pub widths : List ℕ
   pub weightLimit : ℕ
   pub sumWidth : ℕ
+  pub counting : Counting
 
 abbrev pub base : Format
-base = record { widths = 2 ∷ 2 ∷ 4 ∷ []; weightLimit = 1_000_000; sumWidth = 4 }
+base = record { widths = 2 ∷ 2 ∷ 4 ∷ []; weightLimit = 1_000_000; sumWidth = 4; counting = allOrNone }
 
 -- "Every 4-byte weight is allowed. Weights of sides and the floor become 8-byte numbers"
 abbrev pub wide : Format
-wide = record { widths = base .widths; weightLimit = 4_294_967_295; sumWidth = 8 }
+wide = record { widths = base .widths; weightLimit = 4_294_967_295; sumWidth = 8; counting = base .counting }
+
+-- "From now on the trees that count are the longest run from tree 0 on that loads no link past its weight"
+abbrev pub tolerant : Format
+tolerant = record { widths = wide .widths; weightLimit = wide .weightLimit; sumWidth = wide .sumWidth; counting = longestRun }
 
 abbrev pub current : Format
-current = wide
+current = tolerant
 
 -- ---- header
 

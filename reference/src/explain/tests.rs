@@ -82,6 +82,20 @@ fn a_certified_cut_is_the_lightest_of_all() {
     );
 }
 
+/// Node 1 behind links 0 and 1 of weights 9 and 4, and the trees given, each with one link.
+fn parallel(trees: &[(u64, usize)]) -> String {
+    let tree = |&(share, link): &(u64, usize)| format!("tree share {share} links {link}\n");
+    format!("nodes 2\nlink 0-1:9\nlink 0-1:4\n{}", trees.iter().map(tree).collect::<String>())
+}
+
+/// What follows for such a network of the cut that link 1 of tree 0 names.
+#[track_caller]
+fn assert_promise(trees: &[(u64, usize)], verdict: u8, floor: u64, promise: &str) {
+    let cut = "Link 1 of tree 0 names the cut: it severs node 1 from node 0, and the links that it crosses weigh 13 together.";
+    let lines = format!("answer {verdict} 13 {floor} 0 1 - 1\nside 1\n");
+    assert_sentence(&parallel(trees), &lines, Ok(&format!("{cut} {promise}")));
+}
+
 #[test]
 fn a_floor_below_the_weight_is_named() {
     assert_sentence(
@@ -93,14 +107,38 @@ fn a_floor_below_the_weight_is_named() {
 }
 
 #[test]
-fn a_floor_of_0_has_its_reason() {
-    assert_sentence(
-        "nodes 2\nlink 0-1:9\nlink 0-1:4\ntree share 2 links 1\ntree share 3 links 1\ntree share 9 links 0",
-        "answer 1 13 0 0 1 - 1\nside 1\n",
-        Ok("Link 1 of tree 0 names the cut: it severs node 1 from node 0, and the links that it crosses weigh 13 together. \
-            No cut that the listed trees show is lighter. The shares of the trees that hold link 1 are 5 together, \
-            more than its weight of 4, so nothing is known of the cuts that no tree shows."),
+fn a_floor_of_some_trees_says_which_and_why() {
+    assert_promise(
+        &[(2, 1), (3, 1), (9, 0)],
+        1,
+        6,
+        "No cut that the listed trees show is lighter; the whole network may hold one, but none that weighs less than 6. Tree \
+         1 would bring the load of link 1 to 5, more than its weight of 4, so only tree 0 counts.",
     );
+    assert_promise(
+        &[(2, 1), (2, 0), (8, 0), (1, 1)],
+        1,
+        12,
+        "No cut that the listed trees show is lighter; the whole network may hold one, but none that weighs less than 12. \
+         Tree 2 would bring the load of link 0 to 10, more than its weight of 9, so only trees 0 and 1 count.",
+    );
+    assert_promise(
+        &[(1, 1), (0, 0), (2, 1), (2, 1), (0, 1)],
+        1,
+        9,
+        "No cut that the listed trees show is lighter; the whole network may hold one, but none that weighs less than 9. Tree \
+         3 would bring the load of link 1 to 5, more than its weight of 4, so only trees 0 to 2 count.",
+    );
+}
+
+#[test]
+fn a_certified_cut_needs_no_reason() {
+    let trees = [(4, 1), (3, 0), (7, 0)];
+    assert_promise(&trees, 2, 13, "No cut of the whole network weighs less.");
+}
+
+#[test]
+fn a_floor_of_0_has_its_reason() {
     assert_sentence(
         &format!("{RING}tree share 0 links 0 1 2\ntree share 0 links 1 2 3"),
         "answer 1 2 0 0 0 - 3\nside 1 2 3\n",
@@ -108,8 +146,49 @@ fn a_floor_of_0_has_its_reason() {
             together. No cut that the listed trees show is lighter. All shares are 0, so nothing is known of the cuts \
             that no tree shows."),
     );
-    let text = "nodes 2\nlink 0-1:4\ntree share 1 links 0";
-    assert_sentence(text, "answer 1 4 0 0 0 - 1\nside 1\n", Err("the floor is 0 without a reason"));
+    assert_promise(
+        &[(5, 1), (1, 0)],
+        1,
+        0,
+        "No cut that the listed trees show is lighter. Tree 0 would bring the load of link 1 to 5, more than its weight of 4, so \
+         no tree counts and nothing is known of the cuts that no tree shows.",
+    );
+    assert_promise(
+        &[(0, 1), (10, 0), (1, 1)],
+        1,
+        0,
+        "No cut that the listed trees show is lighter. Tree 1 would bring the load of link 0 to 10, more than its weight of 9, so \
+         only tree 0 counts; its share is 0, and nothing is known of the cuts that no tree shows.",
+    );
+    assert_promise(
+        &[(0, 1), (0, 0), (4_294_967_295, 1)],
+        1,
+        0,
+        "No cut that the listed trees show is lighter. Tree 2 would bring the load of link 1 to 4294967295, more than its weight \
+         of 4, so only trees 0 and 1 count; their shares are 0, and nothing is known of the cuts that no tree shows.",
+    );
+}
+
+#[test]
+fn the_first_overloaded_link_of_the_tree_is_named() {
+    let text = format!("{RING}tree share 1 links 0 2 3\ntree share 2 links 1 2 3");
+    let promise = run_end(&network(&text)).map(|end| end.reason(&network(&text)));
+    let first = "Tree 1 would bring the load of link 1 to 2, more than its weight of 1, so only tree 0 counts";
+    assert_eq!(promise.as_deref(), Some(first));
+}
+
+#[test]
+fn a_floor_that_the_trees_do_not_give_is_an_error() {
+    let other = Err("the trees that count give another floor");
+    let all_count = "nodes 2\nlink 0-1:4\ntree share 1 links 0";
+    assert_sentence(all_count, "answer 1 4 0 0 0 - 1\nside 1\n", other);
+    assert_sentence(all_count, "answer 1 4 2 0 0 - 1\nside 1\n", other);
+    assert_sentence(all_count, "answer 2 4 4 0 0 - 1\nside 1\n", other);
+    let one_counts = parallel(&[(2, 1), (3, 1), (1, 0)]);
+    for floor in [0, 9, 12] {
+        assert_sentence(&one_counts, &format!("answer 1 13 {floor} 0 1 - 1\nside 1\n"), other);
+    }
+    assert_sentence(&one_counts, "answer 2 13 13 0 1 - 1\nside 1\n", other);
 }
 
 #[test]

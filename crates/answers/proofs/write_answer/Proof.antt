@@ -7,11 +7,12 @@ use borrow.Author.Needs.{needs}
 use lib.ListN.{drop}
 use Rattle.cuts.specs.Network.{Network, Tree, treeAt}
 use Rattle.cuts.specs.Candidate.{Handle, Fits, sideOf}
-use Rattle.cuts.specs.Bound.{floor}
-use Rattle.cuts.specs.Answer.{answer}
+use Rattle.cuts.specs.Bound.{counted, floor}
+use Rattle.cuts.specs.Answer.{Answer, answer}
 use Rattle.cuts.specs.Demands.{Demand2}
 use Rattle.cuts.proofs.Demands.{answer-demand2}
 use Rattle.trees.specs.Marks.{marks}
+use Rattle.sheet.specs.Sheet.{current}
 use Rattle.records.specs.Answers.{countsOf}
 use Rattle.reader.specs.Answers.{treesFrom, networkAt}
 use Rattle.choice.specs.Choice.{Says}
@@ -31,6 +32,10 @@ bounded c = c .before .before
 abbrev net : tie.Start → Network
 net c = let a = c .args in networkAt (a .sheet .now) (a .ends .now) (a .weights .now) (countsOf (a .c)) (a .at)
 
+-- and its answer
+abbrev given : tie.Start → Answer
+given c = answer (current .counting) (net c)
+
 search-trees-requires : tie.Need-search-trees-requires
 search-trees-requires c κs = search needs
 
@@ -40,18 +45,18 @@ bound-requires c κs =
     let p = start c .pre in
     let few = networkAt-links-most (a .sheet .now) (a .ends .now) (a .weights .now) (countsOf (a .c)) (a .at) (p .0 .1) in
     let trees = networkAt-trees-most (a .sheet .now) (a .ends .now) (a .weights .now) (countsOf (a .c)) (a .at) (p .0 .1) in
-    (p .0 .0, few, trees, omega (arith, few, p .1 .1))
+    record { inside = p .0 .0; few-links = few; few-trees = trees; weighed = omega (arith, few, p .1 .1) }
 
 slice-aggregate-mark-found : tie.Need-slice-aggregate-mark-found
 slice-aggregate-mark-found c = search needs
 
 -- what was found is the answer's candidate
 module _ (c : tie.After-search-trees) where
-  agrees : Demand2 (net (start c)) (answer (net (start c)))
-  agrees = answer-demand2 (net (start c)) (start c .pre .0 .1 .sound)
+  agrees : Demand2 (net (start c)) (given (start c))
+  agrees = answer-demand2 (net (start c)) (start c .pre .0 .1 .sound) (current .counting)
 
-  says : Says (c .search-trees .result) (answer (net (start c)) .best)
-  says = let a = start c .args in says-best (a .sheet .now) (a .ends .now) (a .weights .now) (countsOf (a .c)) (a .at) (c .search-trees .ensures)
+  says : Says (c .search-trees .result) (given (start c) .best)
+  says = let a = start c .args in says-best (current .counting) (a .sheet .now) (a .ends .now) (a .weights .now) (countsOf (a .c)) (a .at) (c .search-trees .ensures)
 
   tree-listed : c .search-trees .result .tree < start c .args .c .trees
   tree-listed =
@@ -69,18 +74,20 @@ slice-aggregate-write-areas c = search needs
 
 -- what is known once the floor was worked out and the side marked
 floor-here : (c : tie.After-bound) → let a = start (c .before) .args in
-    c .bound .result ≡ floor (net (start (c .before))) (treesFrom (net (start (c .before))) (a .c .trees) (drop (a .at) (a .sheet .now))) (c .before .search-trees .result .weight)
+    c .bound .result
+    ≡ floor (counted (current .counting) (net (start (c .before))) (treesFrom (net (start (c .before))) (a .c .trees) (drop (a .at) (a .sheet .now))))
+    (c .before .search-trees .result .weight)
 floor-here c =
     let a = start (c .before) .args in
     let laid = networkAt-laid (a .sheet .now) (a .ends .now) (a .weights .now) (countsOf (a .c)) (a .at) (start (c .before) .pre .0 .1 .sound) in
-    c .bound .ensures (net (start (c .before))) (laid .counted) (λ k b. laid .weights k (rw (laid .counted) b))
+    c .bound .ensures (net (start (c .before))) (record { counted = laid .counted; weights = λ k b. laid .weights k (rw (laid .counted) b) })
 
-marked-here : (c : tie.After-mark-found) → c .mark-found .last .0 ≡ marks (answer (net (start (bounded c .before))) .best .side)
+marked-here : (c : tie.After-mark-found) → c .mark-found .last .0 ≡ marks (given (start (bounded c .before)) .best .side)
 marked-here c =
     let s = bounded c .before in
     let n = net (start s) in
     let d = agrees s in
-    let t : Tree = treeAt n (answer n .best .tree) in
+    let t : Tree = treeAt n (given (start s) .best .tree) in
     let fits = subst (Fits n t) (sym (says s .handle)) (d .links-fit) in
     c .mark-found .ensures (start s .args .weights .now) t (start s .pre .0 .1) (ap (treeAt n) (sym (says s .tree))) fits
     ∙ ap (λ (h : Handle). marks (sideOf n t h)) (says s .handle) ∙ ap marks (sym (d .side-is))
@@ -105,10 +112,10 @@ returns c =
     let b = bounded m in
     let a = start (b .before) .args in
     let found = b .before .search-trees .ensures in
-    w .write-areas .ensures (answer (net (start (b .before)))) (says (b .before)) (marked-here m)
-    (count-is (a .sheet .now) (a .ends .now) (a .weights .now) (countsOf (a .c)) (a .at))
-    (floor-is (a .sheet .now) (a .ends .now) (a .weights .now) (countsOf (a .c)) (a .at) found (floor-here b))
-    (verdict-is (a .sheet .now) (a .ends .now) (a .weights .now) (countsOf (a .c)) (a .at) found (floor-here b))
+    w .write-areas .ensures (given (start (b .before))) (says (b .before)) (marked-here m)
+    (count-is (current .counting) (a .sheet .now) (a .ends .now) (a .weights .now) (countsOf (a .c)) (a .at))
+    (floor-is (current .counting) (a .sheet .now) (a .ends .now) (a .weights .now) (countsOf (a .c)) (a .at) found (floor-here b))
+    (verdict-is (current .counting) (a .sheet .now) (a .ends .now) (a .weights .now) (countsOf (a .c)) (a .at) found (floor-here b))
 
 pub write-answer-spec : {M : Type 1} → statement M
 write-answer-spec =

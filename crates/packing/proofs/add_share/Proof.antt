@@ -1,11 +1,13 @@
 -- `packing::add_share` meets its contract. The loop's invariant: the loads below k have the share added where the link's bit is set, and
 -- those from k on are as they were, so that each is added to once. Assumes nothing.
-use Prim.Native.Nat.{_-_, _≤_}
+use Prim.Native.Nat.{_+_, _-_, _≤_, _<_}
 use mathlib.Core.Path.{_≡_, refl, sym, _∙_}
 use mathlib.Core.Logic.{⊎-elim}
 use native.Mathlib.Omega.{arith}
 use lib.ListN.{length, length-set}
-use Rattle.packing.proofs.ShareLaws.{Added, added-none, added-set, added-unset}
+use Rattle.trees.specs.Order.{entry}
+use Rattle.packing.specs.Loads.{Added}
+use Rattle.packing.proofs.ShareLaws.{added-none, added-set, added-unset}
 use Rattle.packing.proofs.add_share.Statement.{statement}
 use Rattle.packing.proofs.add_share.Tie as tie
 
@@ -31,7 +33,9 @@ add-loads : tie.Need-add-loads Inv-loop μ-loop
 add-loads c =
     let b = c .before .before .before .before in
     let k = b .loop .k in
-    omega (arith, b .loop .inv .0 .above k (omega arith), b .before .before .before .pre .2 k)
+    let f : entry (b .before .before .before .args .loads .now) k + b .before .before .before .args .share < 4_294_967_296 =
+    rw (sym (c .before .before .bit-set .ensures) ∙ c .before .if1 .taken) at (b .before .before .before .pre .fits k (omega arith)) in
+    omega (arith, b .loop .inv .0 .above k (omega arith))
 
 slice-write-loads : tie.Need-slice-write-loads Inv-loop μ-loop
 slice-write-loads c = omega arith
@@ -56,7 +60,7 @@ same-length c = c .before .loop .inv .2
 returns : tie.Need-returns Inv-loop μ-loop
 returns c =
     let l = c .before .loop in
-    (λ k b. l .inv .0 .below k (omega arith), λ k b. l .inv .0 .above k (omega arith))
+    record { below = λ k b. l .inv .0 .below k (omega arith); above = λ k b. l .inv .0 .above k (omega arith) }
 
 pub add-share-spec : {M : Type 1} → statement M
 add-share-spec =

@@ -4,9 +4,12 @@ use std::fmt;
 use std::io;
 use std::path::PathBuf;
 
+use reference::cuts::{self, Counting};
+use reference::network::Network;
 use reference::random::Random;
 use reference::report::{self, Outcome, REPORT_BYTES, SIDE_BYTES};
 use reference::sheet::{self, BASE};
+use reference::{every_side, sold};
 
 use crate::entry::{self, Lent};
 use crate::program::{self, Run};
@@ -85,6 +88,29 @@ pub struct Answers {
     pub wide_floor: u64,
 }
 
+/// How many of the accepted cases have fewer trees that count than listed ones, by the tree that ends the run.
+#[derive(Default)]
+pub struct Runs {
+    /// Alone or the first of several.
+    pub first: u64,
+    pub middle: u64,
+    pub last: u64,
+}
+
+impl Runs {
+    fn count(&mut self, network: &Network) {
+        let (counted, listed) = (cuts::longest_run(network), network.trees.len());
+        if counted == listed {
+            return;
+        }
+        match counted {
+            0 => self.first += 1,
+            _ if counted + 1 == listed => self.last += 1,
+            _ => self.middle += 1,
+        }
+    }
+}
+
 pub struct Judge {
     program: PathBuf,
     /// For the lengths and patterns of areas, and for which sheets go through the program too.
@@ -92,6 +118,7 @@ pub struct Judge {
     pub rows: Vec<Row>,
     current_row: usize,
     pub answers: Answers,
+    pub runs: Runs,
     /// How many cases were refused by each number.
     pub refusals: [u64; LAST_REFUSAL + 1],
     /// How many networks were reckoned by every side too.
@@ -100,6 +127,9 @@ pub struct Judge {
     pub longer: u64,
     /// How many sheets units already sold accept, or refuse by another number than 11.
     pub as_sold: u64,
+    /// How many cases have another floor, and another verdict, than by the rule of units already sold.
+    pub other_floor: u64,
+    pub other_verdict: u64,
 }
 
 impl Judge {
@@ -110,10 +140,13 @@ impl Judge {
             rows: vec![Row::default()],
             current_row: 0,
             answers: Answers::default(),
+            runs: Runs::default(),
             refusals: [0; LAST_REFUSAL + 1],
             by_every_side: 0,
             longer: 0,
             as_sold: 0,
+            other_floor: 0,
+            other_verdict: 0,
         }
     }
 
@@ -156,8 +189,9 @@ impl Judge {
 
     /// The sheet's answer is the expected one.
     pub fn expect(&mut self, sheet: &[u8], expected: &Outcome, through: Through) -> Judged {
-        self.count(expected);
-        self.same_as_sold(sheet, expected)?;
+        self.count(sheet, expected);
+        self.read_as_sold(sheet, expected)?;
+        self.keeps_of_sold(sheet, expected)?;
         let side_length = self.random.between(SIDE_BYTES, LONGEST_AREA);
         let report_length = self.random.between(REPORT_BYTES, LONGEST_AREA);
         self.through_entry(sheet, expected, side_length, report_length)?;
@@ -169,7 +203,7 @@ impl Judge {
 
     /// What document 01's format accepts is expected to be accepted with the same network, and what it refuses by another number
     /// than 11 to be refused by that.
-    fn same_as_sold(&mut self, sheet: &[u8], expected: &Outcome) -> Judged {
+    fn read_as_sold(&mut self, sheet: &[u8], expected: &Outcome) -> Judged {
         let sold = sheet::read_in(&BASE, sheet);
         if sold.as_ref().is_err_and(|refusal| refusal.number == RAISED_REFUSAL) {
             return Ok(());
@@ -185,10 +219,28 @@ impl Judge {
         }
     }
 
+    /// The expected answer keeps what it has to of the one by the rule of units already sold. For that one, small networks are
+    /// searched once more.
+    fn keeps_of_sold(&mut self, sheet: &[u8], expected: &Outcome) -> Judged {
+        let (Ok(answer), Ok(network)) = (expected, sheet::read(sheet)) else {
+            return Ok(());
+        };
+        let sold = match network.nodes <= every_side::MOST_NODES {
+            true => cuts::answer_by(Counting::AllOrNone, &network),
+            false => answer.by(Counting::AllOrNone, &network),
+        };
+        self.other_floor += u64::from(answer.floor != sold.floor);
+        self.other_verdict += u64::from(answer.verdict != sold.verdict);
+        match sold::check(&network, &sold, answer) {
+            Ok(()) => Ok(()),
+            Err(claim) => self.differs(sheet, format!("{claim}: {sold:?}\n"), format!("{answer:?}\n")),
+        }
+    }
+
     /// The sheet is sent to the program with a pause at each of the offsets.
     pub fn with_pauses(&mut self, sheet: &[u8], pauses: &[usize]) -> Judged {
         let expected = report::outcome(sheet);
-        self.count(&expected);
+        self.count(sheet, &expected);
         self.through_program(sheet, &expected, pauses)
     }
 
@@ -199,7 +251,7 @@ impl Judge {
             for report_length in 0..=LONGEST_AREA {
                 match area_refusal(side_length, report_length) {
                     Some(number) => self.count_refusal(number),
-                    None => self.count(&outcome),
+                    None => self.count(sheet, &outcome),
                 }
                 self.through_entry(sheet, &outcome, side_length, report_length)?;
             }
@@ -208,12 +260,15 @@ impl Judge {
     }
 
     /// Counts a case by its expected outcome.
-    fn count(&mut self, outcome: &Outcome) {
+    fn count(&mut self, sheet: &[u8], outcome: &Outcome) {
         match outcome {
             Err(refusal) => self.count_refusal(refusal.number),
             Ok(answer) => {
                 self.row().accepted += 1;
-                self.answers.whole += u64::from(answer.verdict == reference::cuts::WHOLE);
+                if let Ok(network) = sheet::read(sheet) {
+                    self.runs.count(&network);
+                }
+                self.answers.whole += u64::from(answer.verdict == cuts::WHOLE);
                 self.answers.floor_zero += u64::from(answer.floor == 0);
                 self.answers.pair += u64::from(answer.candidate.second.is_some());
                 self.answers.later_tree += u64::from(answer.candidate.tree > 0);

@@ -13,7 +13,7 @@ use std::path::PathBuf;
 use std::process::ExitCode;
 use std::time::{SystemTime, UNIX_EPOCH};
 
-use judge::{Judge, Judged, Stop};
+use judge::{Judge, Judged, Runs, Stop};
 use networks::Counts;
 use reference::random::Random;
 
@@ -81,10 +81,16 @@ fn print_table(judge: &Judge) {
         answers.whole, answers.floor_zero, answers.pair, answers.later_tree
     );
     println!("of more than four bytes: {} weights, {} floors", answers.wide_weight, answers.wide_floor);
+    let Runs { first, middle, last } = judge.runs;
+    println!("not all trees count: the first ends the run in {first}, a middle one in {middle}, the last in {last}");
     let numbers = judge.refusals.iter().enumerate().skip(1);
     let refusals: Vec<String> = numbers.map(|(number, count)| format!("{number}: {count}")).collect();
     println!("refused: {}", refusals.join(", "));
     println!("as units already sold read them: {}", judge.as_sold);
+    println!(
+        "another floor than by the rule of units already sold: {}, another verdict: {}",
+        judge.other_floor, judge.other_verdict
+    );
     println!(
         "networks: {} by every side too, {} in a longer sheet than the shortest",
         judge.by_every_side, judge.longer

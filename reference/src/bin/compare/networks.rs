@@ -120,7 +120,7 @@ fn by_every_side(judge: &mut Judge, network: &Network, sheet: &[u8], answer: &cu
     }
     let demands = every_side::check_demand(network, answer).and(every_side::check_candidates(network));
     if let Err(broken) = demands {
-        return judge.differs(sheet, "what document 01 demands of every side\n".to_string(), broken + "\n");
+        return judge.differs(sheet, "what the documents demand of every side\n".to_string(), broken + "\n");
     }
     Ok(())
 }
