@@ -13,5 +13,6 @@ pub mod Least
 pub mod Handles
 pub mod Demands
 pub mod Sold
+pub mod Appended
 pub mod Walks
 pub mod Growth
