@@ -1,5 +1,5 @@
 -- Demands 2 and 3, stated of a network and of an answer, which may be any: the answer that the definitions give, or what is
--- read back from the bytes of the two areas. The comments are the demands' words. Assumes nothing.
+-- read back from the bytes of the two areas. The comments are the demands' words, and of the floor those of request F-3. Assumes nothing.
 --   Belongs net t s   the side s belongs to one single link or pair of the tree t
 --   Demand2 net a     the answer a agrees with the definition of a cut that crosses at most two tree links, and conversely
 --   Demand3 r net a   the answer a reports a lightest cut, its floor and its mark, where trees count for the floor by the rule r
