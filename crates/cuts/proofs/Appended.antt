@@ -1,9 +1,9 @@
 -- Trees appended to those of a network (request F-3): the trees that counted still count, and the floor is no lower, since whatever an
 -- appended tree shows is a side of the network and weighs at least the floor.
 -- Assumes nothing.
-use Prim.Native.Nat.{ℕ, zero, suc, _≤_}
+use Prim.Native.Nat.{ℕ, _≤_}
 use mathlib.Core.Path.{_≡_, sym, subst}
-use mathlib.Core.List.{List, [], _∷_, _++_}
+use mathlib.Core.List.{List, _++_}
 use native.Mathlib.Omega.{arith}
 use lib.ListN.{length, take, length-append}
 use lib.Seq.{take-append-le}
@@ -12,16 +12,9 @@ use Rattle.cuts.specs.Cut.{cutWeight, size}
 use Rattle.cuts.specs.Tree.{Sound}
 use Rattle.cuts.specs.Bound.{shares, Packed, LongestRun, longestRun, counted, floor}
 use Rattle.cuts.specs.Answer.{answer, judged}
+use Rattle.cuts.proofs.LoadLaws.{shares-take}
 use Rattle.cuts.proofs.CountedLaws.{packed-within, run-longest, counted-run}
 use Rattle.cuts.proofs.Demands.{answer-demand3}
-
--- more trees have no less share
-shares-take : (ts : List Tree) (m n : ℕ) → m ≤ n → shares (take m ts) ≤ shares (take n ts)
-unfolding shares
-shares-take ts zero n l = omega arith
-shares-take ts (suc m) zero l = absurd (omega arith)
-shares-take [] (suc m) (suc n) l = omega arith
-shares-take (t ∷ ts) (suc m) (suc n) l = let r = shares-take ts m n (omega arith) in omega arith
 
 module _ (net : Network) (more : List Tree) where
   abbrev pub appended : Network

@@ -5,7 +5,7 @@ use Prim.Native.Nat.{ℕ, zero, suc, _≤_, _<_}
 use mathlib.Core.Path.{_≡_, refl, sym, ap, _∙_, subst}
 use mathlib.Core.Logic.{_⊎_, inl, inr}
 use mathlib.Core.Bool.{Bool, true, false, cond}
-use mathlib.Core.List.{List, [], _∷_, List·Memᴰ, List·Memᴰ·not-nil, Memᴰ·append-left}
+use mathlib.Core.List.{List, [], List·Memᴰ, List·Memᴰ·not-nil, Memᴰ·append-left}
 use native.Mathlib.Decide.{decLt}
 use native.Mathlib.Omega.{arith}
 use lib.ListN.{length, take, drop, take-append-drop}
@@ -14,21 +14,14 @@ use lib.Dec.{ltb}
 use borrow.Author.Tests.{ltb-true, lt-ltb}
 use Rattle.cuts.specs.Network.{Tree, Network, linkAt, linkCount}
 use Rattle.cuts.specs.Bound.{load, Packed, Overloads, overloaded, LongestRun, Counting, allOrNone, longestRun, Counts, runWithin, counted}
-use Rattle.cuts.proofs.FlagLaws.{clash, truth}
+use Rattle.cuts.proofs.FlagLaws.{clash}
 use Rattle.cuts.proofs.SumLaws.{anyTo-some, anyTo-at}
-
--- more trees load a link no less
-load-take : (ts : List Tree) (m n k : ℕ) → m ≤ n → load (take m ts) k ≤ load (take n ts) k
-unfolding load
-load-take ts zero n k l = omega arith
-load-take ts (suc m) zero k l = absurd (omega arith)
-load-take [] (suc m) (suc n) k l = omega arith
-load-take (t ∷ ts) (suc m) (suc n) k l = let r = load-take ts m n k (omega arith) in omega arith
+use Rattle.cuts.proofs.LoadLaws.{load-take}
 
 module _ (net : Network) where
   -- ---- `overloaded` in words
 
-  pub overloaded-some : (ts : List Tree) → overloaded net ts ≡ true → Overloads net ts
+  overloaded-some : (ts : List Tree) → overloaded net ts ≡ true → Overloads net ts
   unfolding overloaded
   overloaded-some ts e = let r = anyTo-some (linkCount net) (λ k. ltb (linkAt net k .weight) (load ts k)) e in (r .0, r .1, ltb-true _ _ (r .2))
 
@@ -40,14 +33,7 @@ module _ (net : Network) where
   packed-not : (ts : List Tree) → Packed net ts → Overloads net ts → ⊥
   packed-not ts p r = let a = p (r .0) (r .1) in omega (arith, r .2)
 
-  pub packed-overloaded : (ts : List Tree) → Packed net ts → overloaded net ts ≡ false
-  packed-overloaded ts p = step (truth (overloaded net ts))
-    where
-      step : (overloaded net ts ≡ true) ⊎ (overloaded net ts ≡ false) → overloaded net ts ≡ false
-      step (inl e) = absurd (packed-not ts p (overloaded-some ts e))
-      step (inr e) = e
-
-  pub overloaded-packed : (ts : List Tree) → overloaded net ts ≡ false → Packed net ts
+  overloaded-packed : (ts : List Tree) → overloaded net ts ≡ false → Packed net ts
   overloaded-packed ts e k b = step (decLt (linkAt net k .weight) (load ts k))
     where
       step : Dec (linkAt net k .weight < load ts k) → load ts k ≤ linkAt net k .weight
@@ -78,7 +64,7 @@ module _ (net : Network) (ts : List Tree) where
       step (no l) = omega arith
 
   -- there is one longest run
-  pub longest-one : (m n : ℕ) → LongestRun net ts m → LongestRun net ts n → m ≡ n
+  longest-one : (m n : ℕ) → LongestRun net ts m → LongestRun net ts n → m ≡ n
   longest-one m n r s =
       let a = packed-within n m s (r .listed) (r .packed) in
       let b = packed-within m n r (s .listed) (s .packed) in

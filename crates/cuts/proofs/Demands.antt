@@ -251,7 +251,7 @@ module _ (net : Network) (v : Sound net) where
 
   -- ---- the answer
 
-  pub reported-first : First lighter (candidates net) (reported net)
+  reported-first : First lighter (candidates net) (reported net)
   unfolding reported
   reported-first = first-of (lighter-weighing .order) noCandidate (candidates net) (some-candidate .1)
 

@@ -1,7 +1,7 @@
 -- A tree's share added to the loads of its members, link by link, and the trees of a sheet counted one after another, over plain lists:
 -- while no tree has overloaded a link the loads are those of the trees so far, none past its link's weight; the first tree that would
 -- overload one ends the run, which then is the longest. Assumes nothing.
-use Prim.Native.Nat.{ℕ, zero, suc, _+_, _*_, _≤_, _<_}
+use Prim.Native.Nat.{ℕ, suc, _+_, _*_, _≤_, _<_}
 use mathlib.Core.Path.{_≡_, refl, sym, ap, _∙_, subst}
 use mathlib.Core.Logic.{_⊎_, inl, inr}
 use mathlib.Core.Bool.{Bool, true, false, not, and-false, and-eq-true-iff}
@@ -10,7 +10,7 @@ use native.Mathlib.Nat.{add-zero, zero-mul, suc-mul}
 use native.Mathlib.Numerals.{add-one}
 use native.Mathlib.Decide.{decLt}
 use native.Mathlib.Omega.{arith}
-use lib.ListN.{length, set, take, drop, replicate, length-replicate}
+use lib.ListN.{length, set, take, drop, replicate, length-replicate, getD-replicate}
 use lib.Seq.{getD-set-same, getD-set-other, drop-drop}
 use lib.Dec.{ltb}
 use borrow.Author.Tests.{ltb-true, lt-ltb, le-ltb, not-true, not-false}
@@ -22,20 +22,21 @@ use Rattle.cuts.proofs.SumLaws.{all-suc, only-none, anyTo-some, anyTo-at, table
 use Rattle.cuts.proofs.LoadLaws.{load-append, shares-append}
 use Rattle.cuts.proofs.CountedLaws.{counted-run}
 use Rattle.trees.specs.Order.{entry}
+use Rattle.trees.specs.Growing.{Weighed}
 use Rattle.sheet.specs.Bytes.{Bytes, number, mapBit}
 use Rattle.sheet.specs.Sheet.{mapLength, treeLength, treeIn}
 use Rattle.reader.specs.Answers.{treesFrom}
 use Rattle.reader.proofs.TreeLaws.{members-at, treesFrom-more, record-inside}
-use Rattle.packing.specs.Loads.{Weighed, overfull, Added, mostShares, Tallied, Counted}
+use Rattle.packing.specs.Loads.{overfull, ShareAdded, mostShares, Totals, Counted}
 
 -- ---- one tree's share
 
-pub added-none : (map : Bytes) (share : ℕ) (loads : List ℕ) → Added map share loads loads 0
+pub added-none : (map : Bytes) (share : ℕ) (loads : List ℕ) → ShareAdded map share loads loads 0
 added-none map share loads = record { below = λ j b. absurd (omega arith); above = λ j b. refl }
 
 -- one link more
-module _ {map : Bytes} {share : ℕ} {before after : List ℕ} {k : ℕ} (a : Added map share before after k) where
-  pub added-set : k < length after → mapBit map k ≡ true → Added map share before (set after k (entry after k + share)) (k + 1)
+module _ {map : Bytes} {share : ℕ} {before after : List ℕ} {k : ℕ} (a : ShareAdded map share before after k) where
+  pub added-set : k < length after → mapBit map k ≡ true → ShareAdded map share before (set after k (entry after k + share)) (k + 1)
   added-set b h = record {
     below = rw add-one (all-suc (λ j. entry (set after k (entry after k + share)) j ≡ entry before j + only (mapBit map j) share) k
         (λ j c. getD-set-other after k j _ 0 (λ e. omega arith) ∙ a .below j c)
@@ -43,7 +44,7 @@ module _ {map : Bytes} {share : ℕ} {before after : List ℕ} {k : ℕ} (a : Ad
     above = λ j c. getD-set-other after k j _ 0 (λ e. omega arith) ∙ a .above j (omega arith);
   }
 
-  pub added-unset : mapBit map k ≡ false → Added map share before after (k + 1)
+  pub added-unset : mapBit map k ≡ false → ShareAdded map share before after (k + 1)
   added-unset h = record {
     below = rw add-one (all-suc (λ j. entry after j ≡ entry before j + only (mapBit map j) share) k (a .below)
         (rw (h, add-zero) (a .above k (omega arith))));
@@ -51,7 +52,7 @@ module _ {map : Bytes} {share : ℕ} {before after : List ℕ} {k : ℕ} (a : Ad
   }
 
 -- a share of 0 alters no load
-pub added-zero : (map : Bytes) (loads : List ℕ) (links : ℕ) → Added map 0 loads loads links
+pub added-zero : (map : Bytes) (loads : List ℕ) (links : ℕ) → ShareAdded map 0 loads loads links
 added-zero map loads links = record { below = λ j b. let e = only-none (mapBit map j) in omega arith; above = λ j b. refl }
 
 -- ---- the test of one tree
@@ -111,25 +112,23 @@ pub record Loaded (s : Bytes) (ws : List ℕ) (at links : ℕ) (loads : List ℕ
   pub bears : (net : Network) → linkCount net ≡ links → (k : ℕ) → k < links → entry loads k ≡ load (treesFrom net i (drop at s)) k
   pub adds : (net : Network) → linkCount net ≡ links → sum ≡ shares (treesFrom net i (drop at s))
 
-entry-replicate : (n k : ℕ) → entry (replicate n 0) k ≡ 0
-entry-replicate zero k = refl
-entry-replicate (suc n) zero = refl
-entry-replicate (suc n) (suc k) = entry-replicate n k
-
-pub loaded-none : (s : Bytes) (ws : List ℕ) (at links n : ℕ) → n ≡ 2048 → Loaded s ws at links (replicate n 0) 0 at 0
+pub loaded-none : (s : Bytes) (ws : List ℕ) (at links n : ℕ) → n ≡ 2048 → links ≤ n → Loaded s ws at links (replicate n 0) 0 at 0
 unfolding treesFrom table load shares
-loaded-none s ws at links n e = record {
+loaded-none s ws at links n e few = record {
   placed = rw zero-mul (omega arith);
   sized = length-replicate {A = ℕ} n 0 ∙ e;
-  carried = λ k _. omega (arith, entry-replicate n k);
+  carried = λ k b. omega (arith, none k b);
   small = omega arith;
-  bears = λ net _ k _. entry-replicate n k;
+  bears = λ net _. none;
   adds = λ net _. refl;
 }
+  where
+    none : (k : ℕ) → k < links → entry (replicate n 0) k ≡ 0
+    none k b = getD-replicate n k 0 0 (omega arith)
 
 -- with tree i some link is loaded past its weight
 abbrev Overfilled : Bytes → List ℕ → ℕ → ℕ → ℕ → Type 0
-Overfilled s ws at links i = (net : Network) → Weighed net links ws → Overloads net (treesFrom net (i + 1) (drop at s))
+Overfilled s ws at links i = (net : Network) → Weighed net ws links → Overloads net (treesFrom net (i + 1) (drop at s))
 
 module _ {s : Bytes} {ws : List ℕ} {at links : ℕ} {loads : List ℕ} {sum place i : ℕ} (l : Loaded s ws at links loads sum place i) where
   -- the next of `trees` records ends within the sheet
@@ -143,7 +142,7 @@ module _ {s : Bytes} {ws : List ℕ} {at links : ℕ} {loads : List ℕ} {sum pl
     bears-more net n k b = rw (l .bears net n k b, is) (sym (load-next net s map at place i (rw n (l .placed)) (rw n slice) (rw n whole) k (rw n b)))
 
     -- the next tree counts
-    pub loaded-more : share < 4_294_967_296 → anyTo links (overfull map share ws loads) ≡ false → (next : List ℕ) → Added map share loads next links
+    loaded-more : share < 4_294_967_296 → anyTo links (overfull map share ws loads) ≡ false → (next : List ℕ) → ShareAdded map share loads next links
         → length next ≡ length loads → (end : ℕ) → end ≡ place + treeLength links → Loaded s ws at links next (sum + share) end (i + 1)
     loaded-more low none next a same end e = record {
       placed = rw (add-one, suc-mul) (let p = l .placed in omega arith);
@@ -155,7 +154,7 @@ module _ {s : Bytes} {ws : List ℕ} {at links : ℕ} {loads : List ℕ} {sum pl
     }
 
     -- or it would load a link past its weight
-    pub overfilled : anyTo links (overfull map share ws loads) ≡ true → Overfilled s ws at links i
+    overfilled : anyTo links (overfull map share ws loads) ≡ true → Overfilled s ws at links i
     overfilled some net w =
         let r = anyTo-some links (overfull map share ws loads) some in
         let k : ℕ = r .0 in
@@ -163,10 +162,11 @@ module _ {s : Bytes} {ws : List ℕ} {at links : ℕ} {loads : List ℕ} {sum pl
         let o : entry ws k < entry loads k + share = ltb-true _ _ (h .1) in
         let e : entry loads k + share ≡ load (treesFrom net (i + 1) (drop at s)) k =
         ap (λ (c : Bool). entry loads k + only c share) (sym (h .0)) ∙ bears-more net (w .counted) k (r .1) in
-        (k, rw (w .counted) (r .1), omega (arith, w .weights k (r .1)))
+        let b : k < linkCount net = rw (w .counted) (r .1) in
+        (k, b, omega (arith, w .weights k b))
 
   -- and the loads stay
-  pub loaded-same : (map : Bytes) (next : List ℕ) → Added map 0 loads next links → length next ≡ length loads → Loaded s ws at links next sum place i
+  loaded-same : (map : Bytes) (next : List ℕ) → ShareAdded map 0 loads next links → length next ≡ length loads → Loaded s ws at links next sum place i
   loaded-same map next a same = record {
     placed = l .placed;
     sized = same ∙ l .sized;
@@ -191,9 +191,9 @@ module _ (net : Network) (s : Bytes) (at trees : ℕ) where
   trees-length = table-length trees (λ j. treeIn net (drop (j * treeLength (linkCount net)) (drop at s)))
 
 module _ {s : Bytes} {ws : List ℕ} {at links : ℕ} {loads : List ℕ} {sum place n : ℕ} (trees : ℕ) (l : Loaded s ws at links loads sum place n) where
-  tallied : n ≤ trees → (net : Network) → Weighed net links ws → (n ≡ trees) ⊎ Overloads net (take (suc n) (treesFrom net trees (drop at s)))
-      → Tallied net (treesFrom net trees (drop at s)) links loads sum
-  tallied b net w full =
+  totals-are : n ≤ trees → (net : Network) → Weighed net ws links → (n ≡ trees) ⊎ Overloads net (take (suc n) (treesFrom net trees (drop at s)))
+      → Totals net (treesFrom net trees (drop at s)) links loads sum
+  totals-are b net w full =
       let ts : List Tree = treesFrom net trees (drop at s) in
       let e : take n ts ≡ treesFrom net n (drop at s) = first-trees net s at trees n b in
       let c : counted longestRun net ts ≡ treesFrom net n (drop at s) = counted-run net ts n (run ts (trees-length net s at trees) e full) ∙ e in
@@ -204,18 +204,18 @@ module _ {s : Bytes} {ws : List ℕ} {at links : ℕ} {loads : List ℕ} {sum pl
         listed = rw m b;
         packed = λ k c.
             let h : k < links = rw (w .counted) at c in
-            rw e (let x = l .bears net (w .counted) k h in let y = w .weights k h in let z = l .carried k h in omega arith);
+            rw e (let x = l .bears net (w .counted) k h in let y = w .weights k c in let z = l .carried k h in omega arith);
         full = rw m f;
       }
 
   -- all trees count
-  pub all-tallied : n ≡ trees → (net : Network) → Weighed net links ws → Tallied net (treesFrom net trees (drop at s)) links loads sum
-  all-tallied e net w = tallied (omega arith) net w (inl e)
+  all-totals : n ≡ trees → (net : Network) → Weighed net ws links → Totals net (treesFrom net trees (drop at s)) links loads sum
+  all-totals e net w = totals-are (omega arith) net w (inl e)
 
   -- or the run ends at tree n
-  pub run-tallied : n < trees → Overfilled s ws at links n → (net : Network) → Weighed net links ws → Tallied net (treesFrom net trees (drop at s)) links loads sum
-  run-tallied b o net w =
-      tallied (omega arith) net w
+  run-totals : n < trees → Overfilled s ws at links n → (net : Network) → Weighed net ws links → Totals net (treesFrom net trees (drop at s)) links loads sum
+  run-totals b o net w =
+      totals-are (omega arith) net w
       (inr (subst (Overloads net) (ap (λ (i : ℕ). treesFrom net i (drop at s)) (add-one n) ∙ sym (first-trees net s at trees (suc n) b)) (o net w)))
 
 -- ---- how far counting is
@@ -240,17 +240,17 @@ module _ {s : Bytes} {ws : List ℕ} {at links trees : ℕ} {loads : List ℕ} {
   loads-sized (ended p l o b e) = l .sized
 
   pub all-counted : Progress s ws at links trees loads sum place stop i → stop ≤ i → trees ≤ 32 → Counted s at links trees ws loads sum
-  all-counted p m few = record { tallied = by-case p; most = sum-small p few }
+  all-counted p m few = record { totals = by-case p; most = sum-small p few }
     where
-      by-case : Progress s ws at links trees loads sum place stop i → (net : Network) → Weighed net links ws → Tallied net (treesFrom net trees (drop at s)) links loads sum
-      by-case (going l e b) = all-tallied trees l (omega arith)
-      by-case (ended q l o b e) = run-tallied trees l b o
+      by-case : Progress s ws at links trees loads sum place stop i → (net : Network) → Weighed net ws links → Totals net (treesFrom net trees (drop at s)) links loads sum
+      by-case (going l e b) = all-totals trees l (omega arith)
+      by-case (ended q l o b e) = run-totals trees l b o
 
 -- a turn: the next tree was tested, and its share added where it counts
 module _ {s : Bytes} {ws : List ℕ} {at links : ℕ} {loads : List ℕ} {sum place i : ℕ} (l : Loaded s ws at links loads sum place i)
     {map : Bytes} {share : ℕ} (slice : map ≡ take (mapLength links) (drop (place + 4) s)) (whole : place + treeLength links ≤ length s)
     (is : share ≡ number 4 (drop place s)) {counts : Bool} (tested : counts ≡ not (anyTo links (overfull map share ws loads)))
-    {next : List ℕ} (a : Added map (only counts share) loads next links) (same : length next ≡ length loads) {trees : ℕ} (more : i < trees) (end : ℕ) where
+    {next : List ℕ} (a : ShareAdded map (only counts share) loads next links) (same : length next ≡ length loads) {trees : ℕ} (more : i < trees) (end : ℕ) where
   pub turn-counts : counts ≡ true → share < 4_294_967_296 → end ≡ place + treeLength links → {stop : ℕ} → stop ≡ trees
       → Progress s ws at links trees next (sum + share) end stop (i + 1)
   turn-counts h low e f = going (loaded-more l slice whole is low (not-true _ (sym tested ∙ h)) next (rw h at a) same end e) f (omega arith)

@@ -9,9 +9,10 @@ ghost use Rattle.cuts.specs.Sums.{only, anyTo};
 ghost use Rattle.cuts.specs.Network.{Network};
 ghost use Rattle.cuts.specs.Bound.{counted, floor};
 ghost use Rattle.cuts.specs.Answer.{verdictOf};
+ghost use Rattle.trees.specs.Growing.{Weighed};
 ghost use Rattle.sheet.specs.Sheet.{current};
 ghost use Rattle.reader.specs.Answers.{treesFrom};
-ghost use Rattle.packing.specs.Loads.{Weighed, Records, Loading, overfull, Roomy, Added, mostShares, Counted};
+ghost use Rattle.packing.specs.Loads.{Records, Loading, overfull, Roomy, ShareAdded, mostShares, Counted};
 
 // Whether a tree's share would load one of its members past the link's weight.
 fn overloads(loads: &[u32], weights: &[u32], map: &[u8], links: usize, share: u32) -> bool
@@ -33,7 +34,7 @@ fn overloads(loads: &[u32], weights: &[u32], map: &[u8], links: usize, share: u3
 // Adds a tree's share to the load of each of its members.
 fn add_share(loads: &mut [u32], map: &[u8], links: usize, share: u32)
     requires { ⌜ Roomy links (now map) share (now loads) ⌝ }
-    ensures { λ _. ⌜ Added (now (map .entry)) share (now (loads .entry)) (now (loads .exit)) links ⌝ }
+    ensures { λ _. ⌜ ShareAdded (now (map .entry)) share (now (loads .entry)) (now (loads .exit)) links ⌝ }
 {
     let mut k = 0;
     while k < links {
@@ -49,7 +50,7 @@ fn add_share(loads: &mut [u32], map: &[u8], links: usize, share: u32)
 fn count_tree(loads: &mut [u32], weights: &[u32], map: &[u8], links: usize, share: u32) -> bool
     requires { ⌜ Loading links (now map) (now weights) (now loads) ⌝ }
     ensures { λ r. ⌜ r ≡ not (anyTo links (overfull (now (map .entry)) share (now (weights .entry)) (now (loads .entry)))) ⌝ }
-    ensures { λ r. ⌜ Added (now (map .entry)) (only r share) (now (loads .entry)) (now (loads .exit)) links ⌝ }
+    ensures { λ r. ⌜ ShareAdded (now (map .entry)) (only r share) (now (loads .entry)) (now (loads .exit)) links ⌝ }
 {
     let counts = !overloads(loads, weights, map, links, share);
     if counts {
@@ -103,7 +104,7 @@ fn floor(shares: u64, weight: u64) -> u64
 // The floor that the tree records at a position give, where `weight` is that of the cut found.
 pub fn bound(s: &[u8], at: usize, links: usize, trees: usize, weights: &[u32], weight: u64) -> u64
     requires { ⌜ Records (now s) at links trees (now weights) ⌝ }
-    ensures { λ r. ⌜ ((net : Network) → Weighed net links (now (weights .entry))
+    ensures { λ r. ⌜ ((net : Network) → Weighed net (now (weights .entry)) links
         → r ≡ floor (counted (current .counting) net (treesFrom net trees (drop at (now (s .entry))))) weight) ⌝ }
 {
     let mut loads = [0u32; 2048];

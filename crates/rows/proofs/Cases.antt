@@ -165,8 +165,10 @@ indexed = record {
       firsts = λ k b. eqb-true _ _ (all-links (λ k. eqb (linkAt small k .first) (entry firsts k)) refl k b);
       seconds = λ k b. eqb-true _ _ (all-links (λ k. eqb (linkAt small k .second) (entry seconds k)) refl k b);
     };
-    counted = refl;
-    weights = λ k b. eqb-true _ _ (all-links (λ k. eqb (linkAt small k .weight) (entry weights k)) refl k b);
+    weighed = record {
+      counted = refl;
+      weights = λ k b. eqb-true _ _ (all-links (λ k. eqb (linkAt small k .weight) (entry weights k)) refl k b);
+    };
   };
   light = record { few = omega arith; small = λ k b. ltb-true _ (2 ^ 32) (all-links (λ k. ltb (linkAt small k .weight) (2 ^ 32)) refl k b) };
   loopless = λ k b e. clash (all-links (λ k. not (eqb (linkAt small k .first) (linkAt small k .second))) refl k b) (ap not (eq-eqb _ _ e));

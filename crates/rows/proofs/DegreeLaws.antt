@@ -25,8 +25,8 @@ pub degrees-laid : {net : Network} {fs ss ws : List ℕ} {nodes links : ℕ} (de
 degrees-laid {net} {fs} {ss} {ws} degrees l h =
     λ x b.
     let s = l .held .sized in
-    h x (omega arith) ∙ ap (λ (n : ℕ). sumTo n (λ k. only (touches fs ss x k) (entry ws k))) (sym (l .counted))
-    ∙ sum-congr (linkCount net) _ _ (λ k c. rw (← l .held .firsts k c, ← l .held .seconds k c, ← l .weights k c))
+    h x (omega arith) ∙ ap (λ (n : ℕ). sumTo n (λ k. only (touches fs ss x k) (entry ws k))) (sym (l .weighed .counted))
+    ∙ sum-congr (linkCount net) _ _ (λ k c. rw (← l .held .firsts k c, ← l .held .seconds k c, ← l .weighed .weights k c))
 
 -- by place
 module _ {net : Network} {t : Tree} {place node stops links : List ℕ} (w : Kept net t place node stops links) (apart : Loopless net) where

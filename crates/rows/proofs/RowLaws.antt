@@ -26,7 +26,7 @@ use Rattle.rows.proofs.PartLaws.{singlesIn-at, sumsIn-at}
 
 -- the arrays hold light networks only
 pub laid-light : {net : Network} {fs ss ws : List ℕ} {nodes links : ℕ} → Laid net fs ss ws nodes links → links ≤ 2_048 → ((k : ℕ) → entry ws k < 2 ^ 32) → Light net
-laid-light l b h = record { few = let e = l .counted in omega arith; small = λ k c. let e = l .weights k c in let d = h k in omega arith }
+laid-light l b h = record { few = let e = l .weighed .counted in omega arith; small = λ k c. let e = l .weighed .weights k c in let d = h k in omega arith }
 
 -- behind the last place there is no row yet
 pub row-end : (net : Network) (t : Tree) (place stops links : List ℕ) (u : ℕ) (figures : List ℕ) → net .nodes ≤ u → Row net t place stops links u figures

@@ -67,7 +67,7 @@ module _ {net : Network} {t : Tree} {place node stops ups : List ℕ} (w : Kept 
       let r : entry head (x + 1) ≡ h + (entry head (x + 1) - h) = omega (arith, e .rises x (omega arith)) in
       ap (λ (to : ℕ). sumOver h to (λ i. gives fs ss ws place x y (entry list i))) r ∙ over-shift h (entry head (x + 1) - h) (λ i. gives fs ss ws place x y (entry list i))
       ∙ run-sum links e x (omega arith) (gives fs ss ws place x y)
-      ∙ ap (λ (n : ℕ). sumTo n (λ k. only (touches fs ss x k) (gives fs ss ws place x y k))) (sym (l .counted))
+      ∙ ap (λ (n : ℕ). sumTo n (λ k. only (touches fs ss x k) (gives fs ss ws place x y k))) (sym (l .weighed .counted))
       ∙ sum-congr (linkCount net) _ _ at
     where
       at : (k : ℕ) → k < linkCount net
@@ -77,7 +77,7 @@ module _ {net : Network} {t : Tree} {place node stops ups : List ℕ} (w : Kept 
       at k c =
           let i = w .spanning .linked .first-in k c in
           let j = w .spanning .linked .second-in k c in
-          rw (← l .held .firsts k c, ← l .held .seconds k c, ← l .weights k c, ← at-own x (linkAt net k .first) b i, ← at-own x (linkAt net k .second) b j)
+          rw (← l .held .firsts k c, ← l .held .seconds k c, ← l .weighed .weights k c, ← at-own x (linkAt net k .first) b i, ← at-own x (linkAt net k .second) b j)
           (ends-of (linkAt net k .first) (linkAt net k .second) x (λ z. only (eqb (entry place z) y) (weightAt net k)) (apart k c))
 
 -- a run of links 0, .., m - 1 has none but these

@@ -56,8 +56,7 @@ module _ (s : Bytes) (ends : List (List ℕ)) (ws : List ℕ) (c : Counts) (at :
         firsts = λ k b. ap (λ (l : Link). l .first) (link k b);
         seconds = λ k b. ap (λ (l : Link). l .second) (link k b);
       };
-      counted = linksOf-length (c .links) (part ends 0) (part ends 1) ws;
-      weights = λ k b. ap (λ (l : Link). l .weight) (link k b);
+      weighed = record { counted = linksOf-length (c .links) (part ends 0) (part ends 1) ws; weights = λ k b. ap (λ (l : Link). l .weight) (link k b) };
     }
       where
         link : (k : ℕ) → k < linkCount (networkAt s ends ws c at)

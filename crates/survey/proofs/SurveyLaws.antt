@@ -1,62 +1,31 @@
--- Tree records by the map in each, and the candidates of the trees still to come.
+-- The candidates of the trees still to come.
 -- Assumes nothing.
-use Prim.Native.Nat.{ℕ, _+_, _-_, _/_, _≤_, _<_}
+use Prim.Native.Nat.{ℕ, _+_, _<_}
 use mathlib.Core.Path.{_≡_, refl, sym, ap, _∙_, subst}
 use mathlib.Core.Logic.{inl}
-use mathlib.Core.Bool.{Bool, true}
+use mathlib.Core.Bool.{true}
 use mathlib.Core.List.{List, [], _++_, List·Memᴰ}
 use native.Mathlib.Numerals.{add-one}
 use native.Mathlib.Omega.{arith}
-use lib.ListN.{length, take, drop, length-drop}
-use lib.Seq.{length-take-le, drop-length, drop-cons}
+use lib.ListN.{length, drop}
+use lib.Seq.{drop-length, drop-cons}
 use borrow.Author.Tests.{lt-ltb}
-use Rattle.cuts.specs.Sums.{only, countTo, table}
 use Rattle.cuts.specs.First.{firstFrom}
-use Rattle.cuts.specs.Network.{Tree, Network, noTree, linkCount, treeAt}
+use Rattle.cuts.specs.Network.{Tree, Network, noTree, treeAt}
 use Rattle.cuts.specs.Cut.{cutWeight}
 use Rattle.cuts.specs.Tree.{Sound}
 use Rattle.cuts.specs.Limits.{Light}
 use Rattle.cuts.specs.Candidate.{Candidate, candidate, candidatesFrom, candidates, lighter, noCandidate, sideOf}
 use Rattle.cuts.specs.Answer.{reported}
-use Rattle.cuts.proofs.SumLaws.{sum-congr}
 use Rattle.cuts.proofs.CutLaws.{weightOf-is}
 use Rattle.cuts.proofs.LimitLaws.{side-most}
 use Rattle.cuts.proofs.Least.{firstFrom-firstOf, firstFrom-append}
 use Rattle.cuts.proofs.Handles.{candidate-of, candidate-in}
 use Rattle.cuts.proofs.Demands.{some-candidate}
-use Rattle.sheet.specs.Bytes.{Bytes, mapBit}
-use Rattle.sheet.specs.Sheet.{mapLength, treeLength, treeIn}
-use Rattle.reader.proofs.TreeLaws.{mapBit-take, members-at}
 use Rattle.choice.specs.Choice.{Says, Prior, Visited, treeCandidates, unfound}
 use Rattle.choice.specs.declared.Found.{Found}
 use Rattle.choice.proofs.PrecedesLaws.{lighter-order}
 use Rattle.choice.proofs.TreeLaws.{prior-visited, visited-more}
-
--- ---- one record
-
--- the map of the record at a position
-abbrev pub mapAt : Bytes → ℕ → ℕ → Bytes
-mapAt s at links = take (at + 4 + (links + 7) / 8 - (at + 4)) (drop (at + 4) s)
-
-module _ (s : Bytes) (at links : ℕ) where
-  mapAt-is : mapAt s at links ≡ take (mapLength links) (drop (at + 4) s)
-  mapAt-is = let e : at + 4 + (links + 7) / 8 - (at + 4) ≡ mapLength links = omega arith in rw e
-
-  pub mapAt-counted : countTo links (mapBit (mapAt s at links)) ≡ countTo links (mapBit (drop (at + 4) s))
-  mapAt-counted =
-      rw mapAt-is
-      (sum-congr links _ _ (λ k b. ap (λ (c : Bool). only c 1) (mapBit-take (mapLength links) (drop (at + 4) s) k (omega arith))))
-
-  module _ (whole : at + treeLength links ≤ length s) where
-    pub mapAt-length : length (mapAt s at links) ≡ mapLength links
-    mapAt-length = rw mapAt-is (length-take-le (mapLength links) (drop (at + 4) s) (rw (length-drop (at + 4) s) (omega arith)))
-
-    pub mapAt-members : (net : Network) → linkCount net ≡ links → treeIn net (drop at s) .members ≡ table links (mapBit (mapAt s at links))
-    mapAt-members net n =
-        members-at net s (mapAt s at links) at (mapAt-is ∙ ap (λ (i : ℕ). take (mapLength i) (drop (at + 4) s)) (sym n)) (rw n whole)
-        ∙ ap (λ (i : ℕ). table i (mapBit (mapAt s at links))) n
-
--- ---- the candidates of the trees still to come
 
 -- no candidate is as heavy as where a search starts
 lighter-unfound : (net : Network) → Light net → (c : Candidate) → List·Memᴰ c (candidates net) → lighter c unfound ≡ true

@@ -4,7 +4,8 @@
 --   EndArrays es                es has two arrays of 2,048 numbers, for the first ends and the second ends of links
 --   Held net fs ss n            the arrays hold the network: its links' first ends in fs, their second ends in ss, all of them nodes,
 --                               of which there are n, the root among them
---   Laid net fs ss ws n m       so they do, there are m links, and ws has their weights
+--   Weighed net ws m            the network has m links, and ws has their weights
+--   Laid net fs ss ws n m       the arrays hold the network with its weights
 --   Given net t fs ss ms c n    they hold its links' ends, and the first c numbers of ms are the tree's members, rising
 --   GrownTree net t o p l all   what growing the tree gives: `all` says whether its members join every node to the root; if so,
 --                               o, p and l order its nodes, and a tree with one member fewer than nodes has each member as the
@@ -37,10 +38,13 @@ pub record Held (net : Network) (fs ss : List ℕ) (nodes : ℕ) : Type 0 where
   pub firsts : (k : ℕ) → k < linkCount net → linkAt net k .first ≡ entry fs k
   pub seconds : (k : ℕ) → k < linkCount net → linkAt net k .second ≡ entry ss k
 
-pub record Laid (net : Network) (fs ss ws : List ℕ) (nodes links : ℕ) : Type 0 where
-  pub held : Held net fs ss nodes
+pub record Weighed (net : Network) (ws : List ℕ) (links : ℕ) : Type 0 where
   pub counted : linkCount net ≡ links
   pub weights : (k : ℕ) → k < linkCount net → linkAt net k .weight ≡ entry ws k
+
+pub record Laid (net : Network) (fs ss ws : List ℕ) (nodes links : ℕ) : Type 0 where
+  pub held : Held net fs ss nodes
+  pub weighed : Weighed net ws links
 
 pub record Given (net : Network) (t : Tree) (fs ss ms : List ℕ) (count nodes : ℕ) : Type 0 where
   pub held : Held net fs ss nodes

@@ -80,7 +80,7 @@ floor-here : (c : tie.After-bound) → let a = start (c .before) .args in
 floor-here c =
     let a = start (c .before) .args in
     let laid = networkAt-laid (a .sheet .now) (a .ends .now) (a .weights .now) (countsOf (a .c)) (a .at) (start (c .before) .pre .0 .1 .sound) in
-    c .bound .ensures (net (start (c .before))) (record { counted = laid .counted; weights = λ k b. laid .weights k (rw (laid .counted) b) })
+    c .bound .ensures (net (start (c .before))) (laid .weighed)
 
 marked-here : (c : tie.After-mark-found) → c .mark-found .last .0 ≡ marks (given (start (bounded c .before)) .best .side)
 marked-here c =

@@ -6,13 +6,13 @@ use mathlib.Core.Logic.{⊎-elim}
 use native.Mathlib.Omega.{arith}
 use lib.ListN.{length, length-set}
 use Rattle.trees.specs.Order.{entry}
-use Rattle.packing.specs.Loads.{Added}
+use Rattle.packing.specs.Loads.{ShareAdded}
 use Rattle.packing.proofs.ShareLaws.{added-none, added-set, added-unset}
 use Rattle.packing.proofs.add_share.Statement.{statement}
 use Rattle.packing.proofs.add_share.Tie as tie
 
 abbrev Inv-loop : tie.InvT-loop
-Inv-loop loads₀ map links share k₀ loads k = Added map share loads₀ loads k × (k ≤ links) × (length loads ≡ length loads₀)
+Inv-loop loads₀ map links share k₀ loads k = ShareAdded map share loads₀ loads k × (k ≤ links) × (length loads ≡ length loads₀)
 
 abbrev μ-loop : tie.MeasureT-loop
 μ-loop loads₀ map links share k₀ loads k = links - k

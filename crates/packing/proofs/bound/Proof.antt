@@ -18,7 +18,7 @@ returns : tie.Need-returns
 unfolding floor
 returns c net w =
     let counted = c .before .before in
-    rw (c .floor .ensures, counted .count-trees .ensures .tallied net w .sums)
+    rw (c .floor .ensures, counted .count-trees .ensures .totals net w .sums)
 
 pub bound-spec : {M : Type 1} → statement M
 bound-spec = tie.close (tie.spec slice-aggregate-count-trees count-trees-requires floor-requires returns)

@@ -6,8 +6,9 @@ use Prim.Native.Nat.{_+_, _-_, _/_, _≤_, _<_}
 use mathlib.Core.Path.{_≡_, refl}
 use mathlib.Core.Logic.{⊎-elim}
 use native.Mathlib.Omega.{arith}
-use lib.ListN.{length, take, drop, length-take, length-drop}
-use Rattle.sheet.specs.Sheet.{mapLength, treeLength}
+use lib.ListN.{length}
+use Rattle.sheet.specs.Sheet.{treeLength}
+use Rattle.reader.proofs.TreeLaws.{mapAt-is, mapAt-length}
 use Rattle.packing.proofs.ShareLaws.{Loaded, Progress, going, loaded-none, record-within, still-going, sum-small, loads-sized, all-counted, turn-counts, turn-ends}
 use Rattle.packing.proofs.count_trees.Statement.{statement}
 use Rattle.packing.proofs.count_trees.Tie as tie
@@ -28,7 +29,7 @@ add-size c = omega arith
 loop-holds : tie.Need-loop-holds Inv-loop μ-loop
 loop-holds c =
     let s = c .before .before .before in
-    going (rw (s .pre .1) (loaded-none (s .args .s .now) (s .args .weights .now) (s .args .at) (s .args .links) 2048 refl)) refl (omega arith)
+    going (rw (s .pre .1) (loaded-none (s .args .s .now) (s .args .weights .now) (s .args .at) (s .args .links) 2048 refl (s .pre .0 .few-links))) refl (omega arith)
 
 -- in the loop the trees so far count, and the next record ends within the sheet
 module _ (c : tie.In-loop Inv-loop μ-loop) where
@@ -63,7 +64,7 @@ count-tree-requires c κs =
     let p = start (b .before) .pre .0 in
     let l = loaded b .0 in
     record {
-      mapped = simp (length-take, length-drop) (omega (arith, whole b));
+      mapped = let a = start (b .before) .args in omega (arith, mapAt-length (a .s .now) (b .before .loop .place) (a .links) (whole b));
       weighed = p .weighed;
       sized = omega (arith, l .sized, p .few-links);
       carried = l .carried;
@@ -98,9 +99,7 @@ loop-again c =
     let a = start (t .before) .args in
     let place = t .before .loop .place in
     let four = n .before .before .before .four in
-    let e : place + 4 + (a .links + 7) / 8 - (place + 4) ≡ mapLength (a .links) = omega arith in
-    let map = take (place + 4 + (a .links + 7) / 8 - (place + 4)) (drop (place + 4) (a .s .now)) in
-    let slice : map ≡ take (mapLength (a .links)) (drop (place + 4) (a .s .now)) = rw e in
+    let slice = mapAt-is (a .s .now) place (a .links) in
     let more : t .before .loop .i < a .trees = omega (arith, t .loop-test .taken, loaded t .1) in
     let end = place + 4 + (a .links + 7) / 8 in
     let tested = n .count-tree .ensures in

@@ -70,7 +70,7 @@ returns c =
     let u : Tree = treeIn net (drop (a .at + a .found .tree * treeLength (a .c .links)) (a .s .now)) in
     let q : t ≡ u = e ∙ networkAt-tree (a .s .now) (a .ends .now) ws (countsOf (a .c)) (a .at) (a .found .tree) (s .pre .1 .2) in
     let laid = networkAt-laid (a .s .now) (a .ends .now) ws (countsOf (a .c)) (a .at) (v .sound) in
-    let kept = r .place-record .ensures .1 net (laid .held) (laid .counted) (networkAt-spanning (a .s .now) (a .ends .now) ws (countsOf (a .c)) (a .at) (v .sound) (a .found .tree) (s .pre .1 .2)) in
+    let kept = r .place-record .ensures .1 net (laid .held) (laid .weighed .counted) (networkAt-spanning (a .s .now) (a .ends .now) ws (countsOf (a .c)) (a .at) (v .sound) (a .found .tree) (s .pre .1 .2)) in
     subst (λ (x : Tree). c .before .before .mark-side .last .0 ≡ marks (sideOf net x (chosen (a .found .first) (a .found .second)))) (sym q)
     (c .before .before .mark-side .ensures net u kept (laid .held .sized) (subst (λ (x : Tree). Fits net x (chosen (a .found .first) (a .found .second))) q fits))
 

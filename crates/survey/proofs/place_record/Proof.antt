@@ -5,7 +5,7 @@ use borrow.Author.Needs.{needs}
 use lib.ListN.{drop}
 use Rattle.cuts.specs.Network.{Tree}
 use Rattle.sheet.specs.Sheet.{treeIn}
-use Rattle.survey.proofs.SurveyLaws.{mapAt-length, mapAt-counted, mapAt-members}
+use Rattle.reader.proofs.TreeLaws.{mapAt-length, mapAt-counted, mapAt-members}
 use Rattle.survey.proofs.place_record.Statement.{statement}
 use Rattle.survey.proofs.place_record.Tie as tie
 
@@ -48,7 +48,7 @@ returns c =
       c .place-tree .ensures .0,
       λ net held count spanning.
           let t : Tree = treeIn net (drop (a .at) (a .s .now)) in
-          let g = c .before .grow-tree .ensures net t held count (mapAt-members (a .s .now) (a .at) (a .c .links) (p .0 .0) net count) in
+          let g = c .before .grow-tree .ensures net t held count (mapAt-members (a .s .now) (a .at) (a .c .links) net count (p .0 .0)) in
           c .place-tree .ensures .1 net t (record { spanning = spanning; ordered = g .ordered (g .joined ∙ spanning .spanning); counted = held .sized }),
     )
 

@@ -18,7 +18,7 @@ search-tree-requires c κs =
 returns : tie.Need-returns
 returns c =
     λ net best e d spanning prior says.
-    c .search-tree .ensures net _ best _ e d (c .before .place-record .ensures .1 net (e .laid .held) (e .laid .counted) spanning) prior says
+    c .search-tree .ensures net _ best _ e d (c .before .place-record .ensures .1 net (e .laid .held) (e .laid .weighed .counted) spanning) prior says
 
 pub search-record-spec : {M : Type 1} → statement M
 search-record-spec = tie.close (tie.spec place-record-requires search-tree-requires returns)

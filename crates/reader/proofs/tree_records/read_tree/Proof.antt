@@ -1,7 +1,7 @@
 -- `tree_records::read_tree` meets its contract. The four checks are made in their order, each by the callee whose contract says what it
 -- decides. Assumes nothing.
 use Prim.Native.Nat.{ℕ, _+_, _-_, _/_, _≤_}
-use mathlib.Core.Path.{_≡_, sym, ap, _∙_}
+use mathlib.Core.Path.{_≡_, sym, _∙_}
 use native.Mathlib.Omega.{arith}
 use borrow.Author.Needs.{needs}
 use lib.ListN.{length, take, drop}
@@ -13,7 +13,7 @@ use Rattle.trees.specs.Growing.{Held}
 use Rattle.sheet.specs.Bytes.{Bytes, mapBit}
 use Rattle.sheet.specs.Reading.{firstFailing}
 use Rattle.sheet.specs.Sheet.{mapLength, treeLength, treeIn, mapChecks}
-use Rattle.reader.proofs.TreeLaws.{map-counted, cut-off-at, members-at, refused-at, apart-at, read-at}
+use Rattle.reader.proofs.TreeLaws.{map-counted, cut-off-at, refused-at, apart-at, read-at, mapAt, mapAt-slice, mapAt-members}
 use Rattle.reader.proofs.tree_records.read_tree.Statement.{statement}
 use Rattle.reader.proofs.tree_records.read_tree.Tie as tie
 
@@ -64,19 +64,14 @@ map-refusal-requires c κs = search needs
 
 -- where the record is not cut off, its map is a slice of the sheet
 module _ (c : tie.Else1) (net : Network) (n : linkCount net ≡ start c .args .links) where
-  slice : let a = start c .args in
-      take (a .at + 4 + (a .links + 7) / 8 - (a .at + 4)) (drop (a .at + 4) (a .s .now)) ≡ take (mapLength (linkCount net)) (drop (a .at + 4) (a .s .now))
-  slice = let a = start c .args in let e : a .at + 4 + (a .links + 7) / 8 - (a .at + 4) ≡ mapLength (linkCount net) = omega arith in rw e
+  slice : let a = start c .args in mapAt (a .s .now) (a .at) (a .links) ≡ take (mapLength (linkCount net)) (drop (a .at + 4) (a .s .now))
+  slice = let a = start c .args in mapAt-slice (a .s .now) (a .at) (a .links) net n
 
   whole : start c .args .at + treeLength (linkCount net) ≤ length (start c .args .s .now)
   whole = omega arith
 
-  members : let a = start c .args in
-      treeIn net (drop (a .at) (a .s .now)) .members
-      ≡ table (a .links) (mapBit (take (a .at + 4 + (a .links + 7) / 8 - (a .at + 4)) (drop (a .at + 4) (a .s .now))))
-  members =
-      let a = start c .args in
-      members-at net (a .s .now) _ (a .at) slice whole ∙ ap (λ (i : ℕ). table i (mapBit (take (a .at + 4 + (a .links + 7) / 8 - (a .at + 4)) (drop (a .at + 4) (a .s .now))))) n
+  members : let a = start c .args in treeIn net (drop (a .at) (a .s .now)) .members ≡ table (a .links) (mapBit (mapAt (a .s .now) (a .at) (a .links)))
+  members = let a = start c .args in mapAt-members (a .s .now) (a .at) (a .links) net n (omega arith)
 
 -- the same of the network's own counts
 same-checks : (map : Bytes) (nodes links : ℕ) (net : Network) → net .nodes ≡ nodes → linkCount net ≡ links → (k : ℕ) → k ≡ firstFailing (mapChecks nodes links map)
