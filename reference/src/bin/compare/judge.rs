@@ -4,7 +4,7 @@ use std::fmt;
 use std::io;
 use std::path::PathBuf;
 
-use reference::cuts::{self, Counting};
+use reference::cuts::{self, Answer, Counting};
 use reference::network::Network;
 use reference::random::Random;
 use reference::report::{self, Outcome, REPORT_BYTES, SIDE_BYTES};
@@ -88,7 +88,7 @@ pub struct Answers {
     pub wide_floor: u64,
 }
 
-/// How many of the accepted cases have fewer trees that count than listed ones, by the tree that ends the run.
+/// How many accepted sheets have fewer trees that count than listed ones, by the tree that ends the run.
 #[derive(Default)]
 pub struct Runs {
     /// Alone or the first of several.
@@ -189,9 +189,12 @@ impl Judge {
 
     /// The sheet's answer is the expected one.
     pub fn expect(&mut self, sheet: &[u8], expected: &Outcome, through: Through) -> Judged {
-        self.count(sheet, expected);
+        self.count(expected);
         self.read_as_sold(sheet, expected)?;
-        self.keeps_of_sold(sheet, expected)?;
+        if let (Ok(answer), Ok(network)) = (expected, sheet::read(sheet)) {
+            self.runs.count(&network);
+            self.keeps_of_sold(sheet, &network, answer)?;
+        }
         let side_length = self.random.between(SIDE_BYTES, LONGEST_AREA);
         let report_length = self.random.between(REPORT_BYTES, LONGEST_AREA);
         self.through_entry(sheet, expected, side_length, report_length)?;
@@ -221,17 +224,14 @@ impl Judge {
 
     /// The expected answer keeps what it has to of the one by the rule of units already sold. For that one, small networks are
     /// searched once more.
-    fn keeps_of_sold(&mut self, sheet: &[u8], expected: &Outcome) -> Judged {
-        let (Ok(answer), Ok(network)) = (expected, sheet::read(sheet)) else {
-            return Ok(());
-        };
+    fn keeps_of_sold(&mut self, sheet: &[u8], network: &Network, answer: &Answer) -> Judged {
         let sold = match network.nodes <= every_side::MOST_NODES {
-            true => cuts::answer_by(Counting::AllOrNone, &network),
-            false => answer.by(Counting::AllOrNone, &network),
+            true => cuts::answer_by(Counting::AllOrNone, network),
+            false => answer.by(Counting::AllOrNone, network),
         };
         self.other_floor += u64::from(answer.floor != sold.floor);
         self.other_verdict += u64::from(answer.verdict != sold.verdict);
-        match sold::check(&network, &sold, answer) {
+        match sold::check(network, &sold, answer) {
             Ok(()) => Ok(()),
             Err(claim) => self.differs(sheet, format!("{claim}: {sold:?}\n"), format!("{answer:?}\n")),
         }
@@ -240,7 +240,7 @@ impl Judge {
     /// The sheet is sent to the program with a pause at each of the offsets.
     pub fn with_pauses(&mut self, sheet: &[u8], pauses: &[usize]) -> Judged {
         let expected = report::outcome(sheet);
-        self.count(sheet, &expected);
+        self.count(&expected);
         self.through_program(sheet, &expected, pauses)
     }
 
@@ -251,7 +251,7 @@ impl Judge {
             for report_length in 0..=LONGEST_AREA {
                 match area_refusal(side_length, report_length) {
                     Some(number) => self.count_refusal(number),
-                    None => self.count(sheet, &outcome),
+                    None => self.count(&outcome),
                 }
                 self.through_entry(sheet, &outcome, side_length, report_length)?;
             }
@@ -260,14 +260,11 @@ impl Judge {
     }
 
     /// Counts a case by its expected outcome.
-    fn count(&mut self, sheet: &[u8], outcome: &Outcome) {
+    fn count(&mut self, outcome: &Outcome) {
         match outcome {
             Err(refusal) => self.count_refusal(refusal.number),
             Ok(answer) => {
                 self.row().accepted += 1;
-                if let Ok(network) = sheet::read(sheet) {
-                    self.runs.count(&network);
-                }
                 self.answers.whole += u64::from(answer.verdict == cuts::WHOLE);
                 self.answers.floor_zero += u64::from(answer.floor == 0);
                 self.answers.pair += u64::from(answer.candidate.second.is_some());
