@@ -6,8 +6,8 @@ use Rattle.cuts.specs.Answer.{answer}
 use Rattle.sheet.specs.Sheet.{current, decode}
 use Rattle.sheet.proofs.Cases.{starred}
 use Rattle.text.specs.Decimal.{Text, decimal}
-use Rattle.text.specs.Line.{ascii}
-use Rattle.lines.specs.Output.{answerLines, refusedLine, output}
+use Rattle.text.specs.Line.{ascii, refusedLine}
+use Rattle.lines.specs.Output.{answerLines, output}
 
 -- A to H, H with each of its shares
 starredLines : List Text

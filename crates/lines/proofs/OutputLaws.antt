@@ -1,13 +1,11 @@
 -- What is printed is what the two areas and the returned number say: an answer read back from the areas prints as the answer itself,
 -- since both sides have the same first 256 flags, and a refusal prints its number. Assumes nothing.
-use Prim.Native.Nat.{ℕ, _+_, _≤_, _<_}
+use Prim.Native.Nat.{ℕ, _<_}
 use mathlib.Core.Path.{_≡_, sym, ap, ap₂, _∙_, subst}
 use mathlib.Core.Bool.{Bool, false}
 use mathlib.Core.List.{List, [], _++_, map}
-use native.Mathlib.Nat.{zero-add}
 use native.Mathlib.Omega.{arith}
-use lib.ListN.{length, take, drop}
-use lib.Seq.{length-take-le, sets, sets-eq}
+use lib.ListN.{length, drop}
 use Rattle.cuts.specs.Sums.{select}
 use Rattle.cuts.specs.Network.{Network, flag}
 use Rattle.cuts.specs.Cut.{Side}
@@ -23,9 +21,9 @@ use Rattle.sheet.proofs.Acceptance.{decode-zero}
 use Rattle.monitor.specs.Entry.{reading, sideLeft, reportLeft, Reported}
 use Rattle.monitor.proofs.EntryLaws.{reading-is}
 use Rattle.text.specs.Decimal.{Text, decimal}
-use Rattle.text.specs.Line.{line, Put}
-use Rattle.text.proofs.LineLaws.{put-put, put-length}
-use Rattle.lines.specs.Output.{answerWord, sideWord, answerFields, sideFields, answerLines, refusedLine, output}
+use Rattle.text.specs.Line.{line, refusedLine, Put}
+use Rattle.text.proofs.LineLaws.{put-put}
+use Rattle.lines.specs.Output.{answerWord, sideWord, answerFields, sideFields, answerLines, output}
 
 -- ---- the two lines
 
@@ -79,12 +77,3 @@ module _ {f : Format} {sheet side report side′ report′ : Bytes} {n : ℕ} (s
       step : (d : Reading Network) → n ≡ numberOf d → refusedLine n ≡ output f d
       step (accepted net rest) e = absurd (z e)
       step (refused m) e = ap refusedLine e
-
--- text put to the front of a buffer that has room for it
-pub put-written : {old new text : Text} {end : ℕ} (most : ℕ) (out : Text) → Put old 0 text new end → text ≡ out → end ≤ most → most ≤ length old
-    → ((end ≡ length out) × (end ≤ most) × (new ≡ written out old)) × ((end ≤ length new) × (end ≡ length (take end new)))
-put-written {old} {new} {text} {end} most out h e b m =
-    let l : end ≡ length out = h .end-is ∙ ap (λ (t : Text). 0 + length t) e ∙ zero-add (length out) in
-    let w : new ≡ written out old = h .new-is ∙ ap (λ (t : Text). sets old 0 t) e ∙ sets-eq out old 0 (omega arith) ∙ ap (λ (k : ℕ). out ++ drop k old) (zero-add (length out)) in
-    let f : end ≤ length new = omega (arith, put-length h) in
-    ((l, b, w), (f, sym (length-take-le end new f)))

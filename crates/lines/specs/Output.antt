@@ -1,10 +1,9 @@
 -- What the report program prints (document 01, "The report program"). Assumes nothing.
---   answerWord, sideWord, refusedWord   the keywords
+--   answerWord, sideWord                the keywords
 --   secondField h                       the field of a handle's second link: a dash for a single link
 --   answerFields a                      verdict, weight, floor, tree, first link, second link, nodes in the side
 --   sideFields s                        the nodes in a side, rising
 --   answerLines a                       the two lines of an answer
---   refusedLine n                       the line of the refusal n
 --   output f r                          what is printed where r is what the sheet gives in the format f
 --   mostOutput                          no output has more bytes
 use Prim.Native.Nat.{ℕ}
@@ -18,16 +17,13 @@ use Rattle.sheet.specs.Reading.{Reading, accepted, refused}
 use Rattle.sheet.specs.Sheet.{Format}
 use Rattle.sheet.specs.Areas.{firstLink}
 use Rattle.text.specs.Decimal.{Text, decimal}
-use Rattle.text.specs.Line.{ascii, line}
+use Rattle.text.specs.Line.{ascii, line, refusedLine}
 
 abbrev pub answerWord : Text
 answerWord = ascii "answer"
 
 abbrev pub sideWord : Text
 sideWord = ascii "side"
-
-abbrev pub refusedWord : Text
-refusedWord = ascii "refused"
 
 abbrev pub secondField : Handle → Text
 secondField (one e) = ascii "-"
@@ -46,10 +42,6 @@ sideFields s = map decimal (select 256 (flag s))
 unfoldable pub answerLines : Answer → Text
 unfolding line sideFields
 answerLines a = line answerWord (answerFields a) ++ line sideWord (sideFields (a .best .side))
-
-unfoldable pub refusedLine : ℕ → Text
-unfolding line
-refusedLine n = line refusedWord (decimal n ∷ [])
 
 abbrev pub output : Format → Reading Network → Text
 output f (accepted net rest) = answerLines (answer (f .counting) net)

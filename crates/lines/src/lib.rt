@@ -11,6 +11,7 @@ use records::maps::bit_set;
 use text::put_byte;
 use text::put_field;
 use text::put_word;
+use text::refused_line;
 ghost use mathlib.Core.Path.{_≡_};
 ghost use mathlib.Core.List.{[], _∷_, map};
 ghost use Prim.Native.Nat.{ℕ, _+_, _≤_};
@@ -21,7 +22,7 @@ ghost use Rattle.sheet.specs.Sheet.{current, decode};
 ghost use Rattle.sheet.specs.Areas.{reportWidths, reportLength, handleOf, answerOf, answerRead, written};
 ghost use Rattle.text.specs.Decimal.{decimal};
 ghost use Rattle.text.specs.Line.{space, fieldsText, line, Put};
-ghost use Rattle.lines.specs.Output.{answerWord, sideWord, secondField, answerFields, answerLines, refusedLine, output, mostOutput};
+ghost use Rattle.lines.specs.Output.{answerWord, sideWord, secondField, answerFields, answerLines, output, mostOutput};
 
 // No output has more bytes: line 1 takes 75 with each field at its largest, line 2 with all 256 nodes 919.
 pub const MOST_OUTPUT: usize = 994;
@@ -125,17 +126,6 @@ fn answer_lines(out: &mut [u8], side: &[u8], report: &[u8]) -> usize
 {
     let end = answer_line(out, read_report(report));
     side_line(out, end, side)
-}
-
-// Writes the line of a refusal.
-fn refused_line(out: &mut [u8], number: u32) -> usize
-    requires { ⌜ 19 ≤ length (now out) ⌝ }
-    ensures { λ r. ⌜ Put (now (out .entry)) 0 (refusedLine number) (now (out .exit)) r ⌝ }
-    ensures { λ r. ⌜ r ≤ 19 ⌝ }
-{
-    let mut end = put_word(out, 0, b"refused");
-    end = put_field(out, end, number as u64);
-    put_byte(out, end, b'\n')
 }
 
 // Reads a sheet and writes what the report program prints for it to the front of the buffer; the rest of the buffer is kept. Answers

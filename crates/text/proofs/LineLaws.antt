@@ -1,11 +1,12 @@
 -- Text that is written behind other text is the two written as one, and writing keeps a buffer's length. So fields behind fields are all
 -- of them, and a keyword, fields and a line feed are a line. Assumes nothing.
-use Prim.Native.Nat.{ℕ, suc, _+_}
+use Prim.Native.Nat.{ℕ, suc, _+_, _≤_}
+use native.Mathlib.Nat.{zero-add}
 use native.Mathlib.Omega.{arith}
 use mathlib.Core.Path.{_≡_, refl, sym, ap, _∙_, subst}
 use mathlib.Core.List.{List, [], _∷_, _++_, append-nil, append-assoc}
-use lib.ListN.{length, length-append, set}
-use lib.Seq.{sets, length-sets}
+use lib.ListN.{length, length-append, set, take, drop}
+use lib.Seq.{sets, length-sets, sets-eq, length-take-le}
 use Rattle.text.specs.Decimal.{Text}
 use Rattle.text.specs.Line.{space, lineFeed, fieldsText, line, Put}
 
@@ -49,3 +50,12 @@ pub put-line : {old named filled new : Text} {at p q r : ℕ} (keyword : Text) (
     Put old at keyword named p → Put named p (fieldsText fs) filled q → Put filled q (lineFeed ∷ []) new r → Put old at (line keyword fs) new r
 unfolding line
 put-line keyword fs h k l = put-put (put-put h k) l
+
+-- text put to the front of a buffer that has room for it
+pub put-written : {old new text : Text} {end : ℕ} (most : ℕ) (out : Text) → Put old 0 text new end → text ≡ out → end ≤ most → most ≤ length old
+    → ((end ≡ length out) × (end ≤ most) × (new ≡ out ++ drop (length out) old)) × ((end ≤ length new) × (end ≡ length (take end new)))
+put-written {old} {new} {text} {end} most out h e b m =
+    let l : end ≡ length out = h .end-is ∙ ap (λ (t : Text). 0 + length t) e ∙ zero-add (length out) in
+    let w : new ≡ out ++ drop (length out) old = h .new-is ∙ ap (λ (t : Text). sets old 0 t) e ∙ sets-eq out old 0 (omega arith) ∙ ap (λ (k : ℕ). out ++ drop k old) (zero-add (length out)) in
+    let f : end ≤ length new = omega (arith, put-length h) in
+    ((l, b, w), (f, sym (length-take-le end new f)))

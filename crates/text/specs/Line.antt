@@ -4,6 +4,8 @@
 --   space, lineFeed          single characters
 --   fieldsText fs            the fields fs, a space in front of each
 --   line keyword fs          the line of a keyword and fields
+--   refusedWord              the keyword of a refusal
+--   refusedLine n            the line of the refusal n
 --   Put old at text new end  a buffer that held `old` holds `new`: the text is written from a position on, and ends at `end`
 use Prim.Native.Nat.{ℕ, _+_}
 use Prim.Native.Char.{code}
@@ -12,7 +14,7 @@ use mathlib.Core.Path.{_≡_}
 use mathlib.Core.List.{List, [], _∷_, _++_}
 use lib.ListN.{length}
 use lib.Seq.{sets}
-use Rattle.text.specs.Decimal.{Text}
+use Rattle.text.specs.Decimal.{Text, decimal}
 
 abbrev pub ascii : String → Text
 ascii none = []
@@ -31,6 +33,13 @@ fieldsText (f ∷ fs) = space ∷ f ++ fieldsText fs
 unfoldable pub line : Text → List Text → Text
 unfolding fieldsText
 line keyword fs = keyword ++ fieldsText fs ++ lineFeed ∷ []
+
+abbrev pub refusedWord : Text
+refusedWord = ascii "refused"
+
+unfoldable pub refusedLine : ℕ → Text
+unfolding line
+refusedLine n = line refusedWord (decimal n ∷ [])
 
 pub record Put (old : Text) (at : ℕ) (text new : Text) (end : ℕ) : Type 0 where
   pub end-is : end ≡ at + length text

@@ -1,9 +1,10 @@
-// Words and decimal numbers, one behind the other in a buffer. Each function answers the position behind what it wrote.
+// Words and decimal numbers, one behind the other in a buffer, and the line of a refusal. Each function answers the position behind what
+// it wrote.
 ghost use mathlib.Core.List.{[], _∷_};
 ghost use Prim.Native.Nat.{_+_, _≤_};
 ghost use lib.ListN.{length};
 ghost use Rattle.text.specs.Decimal.{decimal};
-ghost use Rattle.text.specs.Line.{space, Put};
+ghost use Rattle.text.specs.Line.{space, refusedLine, Put};
 
 // Writes a byte.
 pub fn put_byte(out: &mut [u8], at: usize, byte: u8) -> usize
@@ -46,4 +47,15 @@ pub fn put_field(out: &mut [u8], at: usize, n: u64) -> usize
 {
     out[at] = b' ';
     put_decimal(out, at + 1, n)
+}
+
+// Writes the line of a refusal.
+pub fn refused_line(out: &mut [u8], number: u32) -> usize
+    requires { ⌜ 19 ≤ length (now out) ⌝ }
+    ensures { λ r. ⌜ Put (now (out .entry)) 0 (refusedLine number) (now (out .exit)) r ⌝ }
+    ensures { λ r. ⌜ r ≤ 19 ⌝ }
+{
+    let mut end = put_word(out, 0, b"refused");
+    end = put_field(out, end, number as u64);
+    put_byte(out, end, b'\n')
 }

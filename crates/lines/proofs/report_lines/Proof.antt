@@ -6,7 +6,8 @@ use native.Mathlib.Omega.{arith}
 use borrow.Author.Needs.{needs}
 use Rattle.sheet.proofs.AreaLaws.{sheet-back}
 use Rattle.lines.specs.Output.{mostOutput}
-use Rattle.lines.proofs.OutputLaws.{answer-output, refused-output, put-written}
+use Rattle.text.proofs.LineLaws.{put-written}
+use Rattle.lines.proofs.OutputLaws.{answer-output, refused-output}
 use Rattle.lines.proofs.report_lines.Statement.{statement}
 use Rattle.lines.proofs.report_lines.Tie as tie
 

@@ -1,13 +1,13 @@
--- `lines::refused_line` meets its contract: the keyword, one field of at most 10 digits and the line feed are a line. Assumes nothing.
+-- `text::refused_line` meets its contract: the keyword, one field of at most 10 digits and the line feed are a line. Assumes nothing.
 use Prim.Native.Nat.{_≤_}
 use mathlib.Core.List.{[], _∷_}
 use native.Mathlib.Omega.{arith}
 use Rattle.text.specs.Decimal.{decimal}
 use Rattle.text.proofs.DecimalLaws.{decimal-most}
 use Rattle.text.proofs.LineLaws.{put-none, put-more, put-line}
-use Rattle.lines.specs.Output.{refusedWord, refusedLine}
-use Rattle.lines.proofs.refused_line.Statement.{statement}
-use Rattle.lines.proofs.refused_line.Tie as tie
+use Rattle.text.specs.Line.{refusedWord, refusedLine}
+use Rattle.text.proofs.refused_line.Statement.{statement}
+use Rattle.text.proofs.refused_line.Tie as tie
 
 -- the places on the way, each from the next: the entry, and where the keyword is written
 abbrev start : tie.After-put-word → tie.Start
