@@ -1,17 +1,20 @@
--- What is printed, against what units already sold print, in document 01's format and in that of request F-2: the same for each of their
--- refusals but 11, and for every sheet that they accept whose trees are a packing; for any other that they accept, the lines of the same
--- cut with a floor that is no less (request F-3).
+-- What is printed, against what units already sold print, in document 01's format and in those of requests F-2 and F-3: the same for each
+-- of their refusals but 11, and 8 where it was given to bit 3 (request F-9), and for every sheet that they accept whose trees are a packing;
+-- for any other that they accept, the lines of the same cut with a floor that is no less (request F-3). Trunk numbers alter no line.
 -- Assumes nothing.
 use Prim.Native.Nat.{ℕ, _≤_}
-use mathlib.Core.Path.{_≡_, sym, ap, _∙_}
+use mathlib.Core.Path.{_≡_, refl, sym, ap, _∙_}
+use mathlib.Core.Bool.{false}
 use Rattle.cuts.specs.Network.{Network}
 use Rattle.cuts.specs.Bound.{Packed, allOrNone}
 use Rattle.cuts.specs.Answer.{certified, answer}
 use Rattle.cuts.proofs.Sold.{answer-before, floor-no-less, certified-before}
 use Rattle.sheet.specs.Bytes.{Bytes}
-use Rattle.sheet.specs.Reading.{accepted, refused}
-use Rattle.sheet.specs.Sheet.{Format, base, wide, current, decode}
-use Rattle.sheet.proofs.Sold.{accepted-before, refused-before, reads-as-wide}
+use Rattle.sheet.specs.Reading.{Reading, accepted, refused, numberOf}
+use Rattle.sheet.specs.Sheet.{Format, base, wide, tolerant, current, decode}
+use Rattle.sheet.specs.Plain.{marked, cutOff, plain}
+use Rattle.sheet.proofs.PlainLaws.{plain-same}
+use Rattle.sheet.proofs.Sold.{reads-before, accepted-before, accepted-as-wide, refused-before, refused-as-wide}
 use Rattle.text.specs.Decimal.{Text}
 use Rattle.lines.specs.Output.{answerLines, output}
 
@@ -48,19 +51,31 @@ module _ (sheet : Bytes) (net : Network) (rest : Bytes) where
   lines-before e p = same-lines sheet net rest (accepted-before sheet net rest e) p ∙ sym (ap (output base) e)
 
   pub lines-as-wide : decode wide sheet ≡ accepted net rest → Packed net (net .trees) → prints current sheet ≡ prints wide sheet
-  lines-as-wide e p = same-lines sheet net rest (reads-as-wide sheet ∙ e) p ∙ sym (ap (output wide) e)
+  lines-as-wide e p = same-lines sheet net rest (accepted-as-wide sheet net rest e) p ∙ sym (ap (output wide) e)
 
   -- elsewhere
   pub relined-before : decode base sheet ≡ accepted net rest → Relined net (prints current sheet)
   relined-before e = other-lines sheet net rest (accepted-before sheet net rest e)
 
   pub relined-as-wide : decode wide sheet ≡ accepted net rest → Relined net (prints current sheet)
-  relined-as-wide e = other-lines sheet net rest (reads-as-wide sheet ∙ e)
+  relined-as-wide e = other-lines sheet net rest (accepted-as-wide sheet net rest e)
 
-module _ (sheet : Bytes) (n : ℕ) where
-  -- "and a sheet refused before with a number other than 11 keeps it"
+module _ (sheet : Bytes) (n : ℕ) (unmarked : n ≡ 8 → marked current sheet ≡ false) where
+  -- "and a sheet refused before with a number other than 11 keeps it"; F-9: by 8 where no link record has bit 3
   pub refusal-before : decode base sheet ≡ refused n → (n ≡ 11 → ⊥) → prints current sheet ≡ prints base sheet
-  refusal-before e other = ap (output current) (refused-before sheet n e other) ∙ sym (ap (output base) e)
+  refusal-before e other = ap (output current) (refused-before sheet n unmarked e other) ∙ sym (ap (output base) e)
 
   pub refusal-as-wide : decode wide sheet ≡ refused n → prints current sheet ≡ prints wide sheet
-  refusal-as-wide e = ap (output current) (reads-as-wide sheet ∙ e) ∙ sym (ap (output wide) e)
+  refusal-as-wide e = ap (output current) (refused-as-wide sheet n unmarked e) ∙ sym (ap (output wide) e)
+
+-- F-9: "A sheet without the bit gets the panel reader's old answer"
+pub lines-unmarked : (sheet : Bytes) → (numberOf (decode tolerant sheet) ≡ 8 → marked current sheet ≡ false) → prints current sheet ≡ prints tolerant sheet
+lines-unmarked sheet other = ap (output current) (reads-before sheet other) ∙ same (decode tolerant sheet)
+  where
+    same : (r : Reading Network) → output current r ≡ output tolerant r
+    same (accepted net rest) = refl
+    same (refused n) = refl
+
+-- F-9: "and answers as if the bit and field were not there"
+pub lines-plain : (sheet : Bytes) → cutOff sheet ≡ false → prints current (plain sheet) ≡ prints current sheet
+lines-plain sheet whole = ap (output current) (plain-same sheet whole)

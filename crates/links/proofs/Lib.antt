@@ -1,2 +1,3 @@
 pub mod RecordLaws
 pub mod LinksLaws
+pub mod TrunkLaws

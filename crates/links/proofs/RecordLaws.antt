@@ -30,24 +30,28 @@ fieldStart-suc : (f : Format) (m i : ℕ) → fieldStart f m (suc i) ≡ fieldSt
 unfolding fieldStart
 fieldStart-suc f m i = ap (λ (x : ℕ). fieldStart f m i + x) (only-digit (getD (f .widths) i 0) (m / 2 ^ i))
 
--- the first three fields are both ends, of two bytes each, and the weight, of four
-pub record ThreeFields (f : Format) : Type 0 where
+-- the first four fields are both ends, of two bytes each, the weight, of four, and the trunk number, of two
+pub record FourFields (f : Format) : Type 0 where
   pub first-two : getD (f .widths) 0 0 ≡ 2
   pub second-two : getD (f .widths) 1 0 ≡ 2
   pub weight-four : getD (f .widths) 2 0 ≡ 4
+  pub trunk-two : getD (f .widths) 3 0 ≡ 2
 
-pub current-fields : ThreeFields current
-current-fields = record { first-two = refl; second-two = refl; weight-four = refl }
+pub current-fields : FourFields current
+current-fields = record { first-two = refl; second-two = refl; weight-four = refl; trunk-two = refl }
 
-module _ {f : Format} (w : ThreeFields f) (m : ℕ) where
+module _ {f : Format} (w : FourFields f) (m : ℕ) where
   fieldStart-second : fieldStart f m 1 ≡ 2 * (m % 2)
   fieldStart-second = let a = rw (w .first-two) at (fieldStart-suc f m 0) in omega (arith, fieldStart-zero f m)
 
   fieldStart-weight : fieldStart f m 2 ≡ 2 * (m % 2) + 2 * (m / 2 % 2)
   fieldStart-weight = let a = fieldStart-second in let b = rw (w .second-two) at (fieldStart-suc f m 1) in omega arith
 
-  pub fieldStart-end : fieldStart f m 3 ≡ 2 * (m % 2) + 2 * (m / 2 % 2) + 4 * (m / 4 % 2)
-  fieldStart-end = let a = fieldStart-weight in let b = rw (w .weight-four) at (fieldStart-suc f m 2) in omega arith
+  pub fieldStart-trunk : fieldStart f m 3 ≡ 2 * (m % 2) + 2 * (m / 2 % 2) + 4 * (m / 4 % 2)
+  fieldStart-trunk = let a = fieldStart-weight in let b = rw (w .weight-four) at (fieldStart-suc f m 2) in omega arith
+
+  pub fieldStart-end : fieldStart f m 4 ≡ 2 * (m % 2) + 2 * (m / 2 % 2) + 4 * (m / 4 % 2) + 2 * (m / 8 % 2)
+  fieldStart-end = let a = fieldStart-trunk in let b = rw (w .trunk-two) at (fieldStart-suc f m 3) in omega arith
 
 module _ (f : Format) (m : ℕ) where
   pub fieldsOf-pair : (k n : ℕ) → k ≤ m → m ≤ suc k → (0, n) ≡ fieldsOf f k → (0, n) ≡ fieldsOf f (suc k) → (0, n) ≡ fieldsOf f m
@@ -80,7 +84,7 @@ module _ (at m : ℕ) (s : Bytes) (e : m ≡ getD s at 0) where
       let place : p ≡ at + (1 + fieldStart f m i) = omega arith in
       rw (front-drop at s, ← e, drop-drop, q, place, v)
 
-  module _ {f : Format} (w : ThreeFields f) where
+  module _ {f : Format} (w : FourFields f) where
     first-at : (before : ℕ) → cond (eqb (m % 2) 1) (number 2 (drop (at + 1) s)) before ≡ field f 0 before (drop at s)
     unfolding fieldStart
     first-at before = field-at f 0 2 before (m % 2) (at + 1) (w .first-two) (omega arith) (omega arith)
@@ -91,6 +95,9 @@ module _ (at m : ℕ) (s : Bytes) (e : m ≡ getD s at 0) where
     weight-at : (before : ℕ) → cond (eqb (m / 4 % 2) 1) (number 4 (drop (at + 1 + 2 * (m % 2) + 2 * (m / 2 % 2)) s)) before ≡ field f 2 before (drop at s)
     weight-at before =
         field-at f 2 4 before (m / 4 % 2) (at + 1 + 2 * (m % 2) + 2 * (m / 2 % 2)) (w .weight-four) (omega arith) (omega (arith, fieldStart-weight w m))
+
+    pub trunk-at : (before : ℕ) → cond (eqb (m / 8 % 2) 1) (number 2 (drop (at + 1 + fieldStart f m 3) s)) before ≡ field f 3 before (drop at s)
+    trunk-at before = field-at f 3 2 before (m / 8 % 2) (at + 1 + fieldStart f m 3) (w .trunk-two) (omega arith) refl
 
     pub link-at : (before l : Link) → l .first ≡ cond (eqb (m % 2) 1) (number 2 (drop (at + 1) s)) (before .first)
         → l .second ≡ cond (eqb (m / 2 % 2) 1) (number 2 (drop (at + 1 + 2 * (m % 2)) s)) (before .second)

@@ -5,17 +5,19 @@
 --   linkOf l              the link that the struct holds
 --   linkSays s r          what r says where it answers to reading a link from s
 --   LinkInside s r        the position behind the link lies in s
+--   LinksThere f s p k    k link records stand from position p of s on, and all are read in the format f
 --   linksOf m fs ss ws    the m links whose first ends, second ends and weights stand in the arrays
 use Prim.Native.Nat.{ℕ, _^_, _≤_}
+use mathlib.Core.Path.{_≡_}
 use mathlib.Core.Bool.{cond}
-use mathlib.Core.List.{List}
+use mathlib.Core.List.{List, []}
 use lib.ListN.{length, getD, drop}
 use lib.Dec.{leb}
 use Rattle.cuts.specs.Sums.{table}
 use Rattle.cuts.specs.Network.{Link}
 use Rattle.sheet.specs.Bytes.{Bytes}
-use Rattle.sheet.specs.Reading.{Reading, accepted, refused}
-use Rattle.sheet.specs.Sheet.{Format, fieldStart}
+use Rattle.sheet.specs.Reading.{Reading, accepted, refused, records}
+use Rattle.sheet.specs.Sheet.{Format, fieldStart, nextLink}
 use Rattle.links.specs.declared.Link as link
 use Rattle.links.specs.declared.Fields as fields
 use Rattle.links.specs.declared.Fields.the-variants as fields-are
@@ -39,6 +41,12 @@ linkSays s (read-is.Refused n) = refused n
 abbrev pub LinkInside : Bytes → read.Record → Type 0
 LinkInside s (read-is.Read l p) = p ≤ length s
 LinkInside s (read-is.Refused n) = Unit {0}
+
+pub record LinksThere (f : Format) (s : Bytes) (from count : ℕ) : Type 0 where
+  pub nodes : ℕ
+  pub links : List Link
+  pub rest : Bytes
+  pub are-read : records (nextLink f nodes) count [] (drop from s) ≡ accepted links rest
 
 unfoldable pub linksOf : ℕ → List ℕ → List ℕ → List ℕ → List Link
 unfolding table

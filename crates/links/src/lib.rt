@@ -1,4 +1,7 @@
-// Link records: a map byte, then the fields whose bits are set; the others are inherited from the link before.
+// Link records: a map byte, then the fields whose bits are set; the others are inherited from the link before. Behind the ends and the
+// weight may stand a trunk number, which a reader of the network steps over.
+pub mod trunks; // trunk numbers
+
 use records::Step;
 use records::bytes::four;
 use records::bytes::two;
@@ -17,8 +20,8 @@ ghost use Rattle.sheet.specs.Sheet.{current, recordLength, linkIn, shapeChecks,
 ghost use Rattle.records.specs.Answers.{stepNumber, stepSays, EndsAt, Inside};
 ghost use Rattle.links.specs.Answers.{fieldsSay, fieldsOf, linkOf, linkSays, LinkInside, linksOf};
 
-// The map byte of a link with all its fields.
-const ALL_FIELDS: u8 = 7;
+// The three lowest bits of link 0's map byte: both ends and the weight are there.
+const ENDS_AND_WEIGHT: u8 = 7;
 
 pub struct Link {
     pub first: usize,
@@ -44,11 +47,12 @@ fn field_bytes(m: u8) -> Fields
 {
     match m {
         0 => Fields::Length(0),
-        1 | 2 => Fields::Length(2),
-        3 | 4 => Fields::Length(4),
-        5 | 6 => Fields::Length(6),
-        7 => Fields::Length(8),
-        8..=255 => Fields::Refused,
+        1 | 2 | 8 => Fields::Length(2),
+        3 | 4 | 9 | 10 => Fields::Length(4),
+        5 | 6 | 11 | 12 => Fields::Length(6),
+        7 | 13 | 14 => Fields::Length(8),
+        15 => Fields::Length(10),
+        16..=255 => Fields::Refused,
     }
 }
 
@@ -62,7 +66,7 @@ fn record_end(s: &[u8], at: usize, start: bool) -> Step
         return Step::Refused(refusals::NO_MAP_BYTE);
     }
     let m = s[at];
-    if m != ALL_FIELDS && start {
+    if m % 8 != ENDS_AND_WEIGHT && start {
         return Step::Refused(refusals::MAP_BYTE);
     }
     match field_bytes(m) {

@@ -21,7 +21,7 @@ pub const TREE_COUNT: u32 = 6;
 // No map byte is left for a link.
 pub const NO_MAP_BYTE: u32 = 7;
 
-// A map byte exceeds 7, or link 0's map byte is not 7.
+// A map byte exceeds 15, or link 0's map byte is neither 7 nor 15.
 pub const MAP_BYTE: u32 = 8;
 
 // The sheet ends before the last byte of a field whose bit stands.

@@ -220,7 +220,7 @@ module _ (f : Format) (n : ℕ) (header : 3 ≤ n → 7 ≤ n) (early : n < 12) 
       unless-never n (treeChecks net bs) (accepted (treeIn net bs) (drop (treeLength (linkCount net)) bs))
       (rw (ne-eqb 12 n (λ e. omega arith), ne-eqb 13 n (λ e. omega arith), ne-eqb 14 n (λ e. omega arith), ne-eqb 15 n (λ e. omega arith))) tt
 
-  trees-never : (c : Counts) (links : List Link) (bs : Bytes) → Never n (treesBehind c links bs)
+  pub trees-never : (c : Counts) (links : List Link) (bs : Bytes) → Never n (treesBehind c links bs)
   trees-never c links bs =
       let one : Bytes → Reading Tree = treeRecord (network (c .nodes) links []) in
       andThen-never n (records (λ _. one) (c .trees) [] bs) _

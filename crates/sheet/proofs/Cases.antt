@@ -11,29 +11,38 @@
 --   layouts          the bytes of both areas for A, E and F in document 01's format, in areas of 33 and 18 bytes that were full of nines
 --   wideLayouts      those for E, F and two sheets with heavier links in the format in force, the report area of 26 bytes
 --   laidOut f n bs   the sheet bs and the bytes of areas of 33 and n bytes, full of nines, after it in the format f
---   Numbered         a sheet and its return numbers: of units already sold, and in force
+--   Trunked          a sheet, the trunk numbers of its links, and the sheet without them
+--   trenches         sheets with trunk numbers
+--   read bs          the sheet bs, the trunk numbers read from it, or the refusal, and the sheet without them
+--   Numbered         a sheet and its return numbers: of units already sold, by document 01's format and by that of F-3, and in force
 --   numbers          0 for an accepted sheet; sheets with one fault, then sheets with two, of which the first in the list counts
 --   numbered bs      the sheet bs and its return numbers
 -- Assumes nothing.
 use Prim.Native.Nat.{ℕ}
 use mathlib.Core.Path.{_≡_, refl}
 use mathlib.Core.List.{List, [], _∷_, _++_, map}
-use lib.ListN.{replicate}
+use lib.ListN.{take, replicate}
 use Rattle.cuts.specs.Sums.{select}
 use Rattle.cuts.specs.Network.{Network, flag}
 use Rattle.cuts.specs.Answer.{Answer, answer}
 use Rattle.sheet.specs.Bytes.{Bytes}
 use Rattle.sheet.specs.Reading.{accepted, refused, numberOf}
-use Rattle.sheet.specs.Sheet.{Format, base, wide, current, decode, sheetMost}
+use Rattle.sheet.specs.Sheet.{Format, base, wide, tolerant, current, decode, sheetMost}
+use Rattle.sheet.specs.Trunks.{trunks}
+use Rattle.sheet.specs.Plain.{plain}
 use Rattle.sheet.specs.Areas.{sideBytes, reportBytes, sideAfter, reportAfter, answerRead, firstLink, secondLink}
 
--- ---- sheets of small numbers: a header, link records with all fields, and a tree record with a map of one byte
+-- ---- sheets of small numbers: a header, link records with all fields, without and with a trunk number, and a tree record with a map of
+-- one byte
 
 abbrev header : ℕ → ℕ → ℕ → Bytes
 header n m t = n ∷ 0 ∷ m ∷ 0 ∷ t ∷ []
 
 abbrev link : ℕ → ℕ → ℕ → Bytes
 link x y w = 7 ∷ x ∷ 0 ∷ y ∷ 0 ∷ w ∷ 0 ∷ 0 ∷ 0 ∷ []
+
+abbrev trunkLink : ℕ → ℕ → ℕ → ℕ → Bytes
+trunkLink x y w t = 15 ∷ x ∷ 0 ∷ y ∷ 0 ∷ w ∷ 0 ∷ 0 ∷ 0 ∷ t ∷ 0 ∷ []
 
 abbrev tree : ℕ → ℕ → Bytes
 tree share members = share ∷ 0 ∷ 0 ∷ 0 ∷ members ∷ []
@@ -240,18 +249,65 @@ wideLayouts-written : map (λ l. laidOut current 26 (l .sheet)) wideLayouts ≡ 
 unfolding wideLayouts laidOut
 wideLayouts-written = refl
 
+-- ---- trunk numbers
+
+pub record Trunked : Type 0 where
+  pub sheet : Bytes
+  numbers : List ℕ
+  without : Bytes
+
+abbrev carries : Bytes → List ℕ → Bytes → Trunked
+carries bs ns without = record { sheet = bs; numbers = ns; without = without }
+
+unfoldable pub trenches : List Trunked
+trenches =
+    -- A with trunk 263 from link 0 on
+    carries (header 3 3 1 ++ 15 ∷ 0 ∷ 0 ∷ 1 ∷ 0 ∷ 3 ∷ 0 ∷ 0 ∷ 0 ∷ 7 ∷ 1 ∷ link 1 2 2 ++ 5 ∷ 0 ∷ 0 ∷ 4 ∷ 0 ∷ 0 ∷ 0 ∷ tree 2 5)
+    (263 ∷ 263 ∷ 263 ∷ []) (triangle ++ tree 2 5)
+    -- H with two links more in its trench: trunks 1 and 65,535, the last with no field
+    ∷ carries (header 2 3 1 ++ trunkLink 0 1 4 1 ++ 8 ∷ 255 ∷ 255 ∷ 0 ∷ tree 1 1)
+    (1 ∷ 65535 ∷ 65535 ∷ []) (header 2 3 1 ++ link 0 1 4 ++ 0 ∷ 0 ∷ tree 1 1)
+    -- E with trunk 5 from link 1 on
+    ∷ carries (header 3 3 1 ++ link 0 1 1 ++ trunkLink 1 2 1 5 ++ link 0 2 10 ++ tree 1 3)
+    (0 ∷ 5 ∷ 5 ∷ []) (thickRing ++ tree 1 3)
+    -- A as it was
+    ∷ carries (triangle ++ tree 2 5) (0 ∷ 0 ∷ 0 ∷ []) (triangle ++ tree 2 5)
+    -- refused: a byte behind the tree, and a trunk number of which one byte is there
+    ∷ carries (header 2 1 1 ++ trunkLink 0 1 4 5 ++ tree 1 1 ++ 0 ∷ []) (16 ∷ []) (bridge 4 ++ tree 1 1 ++ 0 ∷ [])
+    ∷ carries (header 2 1 1 ++ 15 ∷ 0 ∷ 0 ∷ 1 ∷ 0 ∷ 4 ∷ 0 ∷ 0 ∷ 0 ∷ 5 ∷ []) (9 ∷ []) (bridge 4)
+    ∷ []
+
+read : Bytes → Trunked
+unfolding trunks plain
+read bs = carries bs (elim (trunks current bs) [ accepted ns rest ↦ ns | refused n ↦ n ∷ [] ]) (plain bs)
+
+trenches-read : map (λ c. read (c .sheet)) trenches ≡ trenches
+unfolding trenches read
+trenches-read = refl
+
+-- both areas, or the refusal, are those of the sheet without them, but where a trunk number is cut off
+trenches-reported : map (λ c. inAreas current (c .sheet) .line) trenches
+    ≡ map (λ c. inAreas current (c .without) .line) (take 5 trenches) ++ (9 ∷ []) ∷ []
+unfolding trenches inAreas
+trenches-reported = refl
+
+trenches-as-before : map (λ c. inAreas current (c .without) .line) trenches ≡ map (λ c. inAreas tolerant (c .without) .line) trenches
+unfolding trenches inAreas
+trenches-as-before = refl
+
 -- ---- return numbers
 
 record Numbered : Type 0 where
   sheet : Bytes
   sold : ℕ
+  before : ℕ
   number : ℕ
 
-abbrev returnsBoth : ℕ → ℕ → Bytes → Numbered
-returnsBoth m n bs = record { sheet = bs; sold = m; number = n }
+abbrev returnsEach : ℕ → ℕ → ℕ → Bytes → Numbered
+returnsEach l m n bs = record { sheet = bs; sold = l; before = m; number = n }
 
 abbrev returns : ℕ → Bytes → Numbered
-returns n bs = returnsBoth n n bs
+returns n bs = returnsEach n n n bs
 
 numbers : List Numbered
 numbers =
@@ -267,16 +323,27 @@ numbers =
     ∷ returns 6 (header 2 1 0 ++ link 0 1 4)
     ∷ returns 6 (header 2 1 33 ++ link 0 1 4 ++ tree 1 1)
     ∷ returns 7 (header 2 1 1)
-    -- link 0 without its weight, and a map byte of 8
+    -- link 0 without its weight, and with a trunk number in its place; a map byte of 16
     ∷ returns 8 (header 2 1 1 ++ 3 ∷ 0 ∷ 0 ∷ 1 ∷ 0 ∷ [])
-    ∷ returns 8 (header 2 2 1 ++ link 0 1 4 ++ 8 ∷ [])
+    ∷ returns 8 (header 2 1 1 ++ 11 ∷ 0 ∷ 0 ∷ 1 ∷ 0 ∷ 5 ∷ 0 ∷ tree 1 1)
+    ∷ returns 8 (header 2 2 1 ++ link 0 1 4 ++ 16 ∷ tree 1 1)
     ∷ returns 9 (header 2 1 1 ++ 7 ∷ 0 ∷ 0 ∷ 1 ∷ 0 ∷ 4 ∷ 0 ∷ 0 ∷ [])
     -- an end outside, and both ends equal
     ∷ returns 10 (header 2 1 1 ++ link 0 2 4 ++ tree 1 1)
     ∷ returns 10 (header 2 1 1 ++ link 1 1 4 ++ tree 1 1)
-    -- refused by 11, and in the format in force accepted, or refused by a later check
-    ∷ returnsBoth 11 0 (header 2 1 1 ++ heavy 0 1 ++ tree 1 1)
-    ∷ returnsBoth 11 12 (header 2 1 1 ++ heavy 0 1)
+    -- refused by 11, and in the formats since F-2 accepted, or refused by a later check
+    ∷ returnsEach 11 0 0 (header 2 1 1 ++ heavy 0 1 ++ tree 1 1)
+    ∷ returnsEach 11 12 12 (header 2 1 1 ++ heavy 0 1)
+    -- a whole trunk number, of link 0 and of link 1, and one of which the sheet's end leaves two bytes, one and none
+    ∷ returnsEach 8 8 0 (header 2 1 1 ++ trunkLink 0 1 4 5 ++ tree 1 1)
+    ∷ returnsEach 8 8 0 (header 2 2 1 ++ link 0 1 4 ++ 8 ∷ 5 ∷ 0 ∷ tree 1 1)
+    ∷ returnsEach 8 8 12 (header 2 2 1 ++ link 0 1 4 ++ 8 ∷ 5 ∷ 0 ∷ [])
+    ∷ returnsEach 8 8 9 (header 2 2 1 ++ link 0 1 4 ++ 8 ∷ 5 ∷ [])
+    ∷ returnsEach 8 8 9 (header 2 2 1 ++ link 0 1 4 ++ 8 ∷ [])
+    -- a weight past document 01's limit in front of it; ends of which one is outside
+    ∷ returnsEach 11 8 0 (header 2 2 1 ++ heavy 0 1 ++ 8 ∷ 5 ∷ 0 ∷ tree 1 1)
+    ∷ returnsEach 8 8 10 (header 2 1 1 ++ trunkLink 0 2 4 5 ++ tree 1 1)
+    ∷ returnsEach 8 8 16 (header 2 1 1 ++ trunkLink 0 1 4 5 ++ tree 1 1 ++ 0 ∷ [])
     ∷ returns 12 (bridge 4 ++ 1 ∷ 0 ∷ 0 ∷ 0 ∷ [])
     -- a bit past the link count; all four links in the tree
     ∷ returns 13 (triangle ++ tree 2 9)
@@ -293,7 +360,8 @@ numbers =
     ∷ returns 9 (header 2 1 1 ++ 7 ∷ 1 ∷ 0 ∷ 1 ∷ 0 ∷ 4 ∷ [])
     ∷ returns 10 (header 2 1 1 ++ heavy 1 1)
     -- in two links, and in a link and a tree
-    ∷ returnsBoth 11 8 (header 2 2 1 ++ heavy 0 1 ++ 8 ∷ [])
+    ∷ returnsEach 11 8 8 (header 2 2 1 ++ heavy 0 1 ++ 16 ∷ [])
+    ∷ returns 10 (header 2 2 1 ++ link 1 1 4 ++ 8 ∷ 5 ∷ 0 ∷ tree 1 1)
     ∷ returns 10 (header 2 1 1 ++ link 0 2 4 ++ tree 1 3)
     -- in a tree: 13 and 14, 14 and 15
     ∷ returns 13 (triangle ++ tree 2 13)
@@ -305,14 +373,14 @@ numbers =
 
 numbered : Bytes → Numbered
 unfolding decode
-numbered bs = returnsBoth (numberOf (decode base bs)) (numberOf (decode current bs)) bs
+numbered bs = returnsEach (numberOf (decode base bs)) (numberOf (decode tolerant bs)) (numberOf (decode current bs)) bs
 
 numbers-returned : map (λ r. numbered (r .sheet)) numbers ≡ numbers
 unfolding numbers numbered
 numbers-returned = refl
 
--- ---- the longest sheets: document 01, "The longest sheet has 26,757 bytes"
+-- ---- the longest sheets: document 01, "The longest sheet has 26,757 bytes"; F-9, "The longest sheet now has 30,853 bytes"
 
-longest : map (λ f. sheetMost f 2048 32) (base ∷ wide ∷ current ∷ []) ≡ 26757 ∷ 26757 ∷ 26757 ∷ []
+longest : map (λ f. sheetMost f 2048 32) (base ∷ wide ∷ tolerant ∷ current ∷ []) ≡ 26757 ∷ 26757 ∷ 26757 ∷ 30853 ∷ []
 unfolding sheetMost
 longest = refl

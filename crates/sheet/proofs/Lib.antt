@@ -4,7 +4,12 @@ pub mod Acceptance
 pub mod Agree
 pub mod Sizes
 pub mod Raised
+pub mod Longest
+pub mod ComesTo
+pub mod MarkLaws
+pub mod PlainRecords
+pub mod PlainLaws
+pub mod TrunkLaws
 pub mod Sold
 pub mod AreaLaws
 pub mod Cases
-pub mod Longest

@@ -95,7 +95,7 @@ records-local one w (suc k) got =
 
 -- ---- bytes
 
-number-front : (w : ℕ) → Front w (number w)
+pub number-front : (w : ℕ) → Front w (number w)
 unfolding number
 number-front zero bs later h = refl
 number-front (suc w) [] later h = absurd (not-suc-le-zero h)
@@ -104,7 +104,7 @@ number-front (suc w) (x ∷ bs) later h = rw (number-front w bs later (omega ari
 mapBit-front : (n k : ℕ) → k < 8 * n → Front n (λ map. mapBit map k)
 mapBit-front n k b map later h = ap (λ (x : ℕ). bit x (k % 8)) (List·getD-append map later 0 (k / 8) (omega arith))
 
-drop-front : {A : Type 0} (at a : ℕ) (f : Bytes → A) → Front a f → Front (at + a) (λ bs. f (drop at bs))
+pub drop-front : {A : Type 0} (at a : ℕ) (f : Bytes → A) → Front a f → Front (at + a) (λ bs. f (drop at bs))
 drop-front at a f e bs later h =
     rw (drop-append-le at bs later (omega arith)) (e (drop at bs) later (let l = length-drop at bs in omega arith))
 
@@ -115,7 +115,7 @@ length-front a n l bs later h =
 
 -- ---- the header
 
-countsIn-front : Front 5 countsIn
+pub countsIn-front : Front 5 countsIn
 unfolding countsIn
 countsIn-front bs later h =
     rw (

@@ -9,13 +9,13 @@ use native.Mathlib.Decide.{decLt}
 use lib.ListN.{length, getD, drop, List·getD-eq-default}
 use lib.Seq.{getD-drop}
 use lib.Dec.{eqb, leb, ltb}
-use borrow.Author.Tests.{le-ltb}
+use borrow.Author.Tests.{le-ltb, ltb-false}
 use Rattle.cuts.specs.Network.{Link, Tree, Network, noLink, noTree, linkCount}
 use Rattle.cuts.specs.Limits.{Light, LightShares}
 use Rattle.sheet.specs.Bytes.{Bytes, ByteSized, number, bit}
 use Rattle.sheet.specs.Reading.{Check, check, firstFailing, Reading, accepted, numberOf, unless}
 use Rattle.sheet.specs.Sheet.{Format, Counts, countsIn, countChecks, headerRecord, mapByte, fieldStart, recordLength, field, linkIn, shapeChecks, valueChecks, linkRecord, nextLink, treeLength, treeIn, treeChecks, treeRecord, network, decode}
-use Rattle.sheet.proofs.ReadingLaws.{unless-accepted, unless-append, Never, unless-never, never-number, records-kept, All, all-snoc, all-none}
+use Rattle.sheet.proofs.ReadingLaws.{passed, unless-accepted, unless-append, Never, unless-never, never-number, records-kept, All, all-snoc, all-none}
 use Rattle.sheet.proofs.Acceptance.{decode-parts, decode-accepted, decode-never}
 
 -- ---- bytes
@@ -27,7 +27,7 @@ byte-below bs h k = step (decLt k (length bs))
     step (yes b) = h k b
     step (no b) = rw (List·getD-eq-default bs 0 (let l : length bs ≤ k = omega arith in l)) (omega arith)
 
-sized-drop : (n : ℕ) (bs : Bytes) → ByteSized bs → ByteSized (drop n bs)
+pub sized-drop : (n : ℕ) (bs : Bytes) → ByteSized bs → ByteSized (drop n bs)
 sized-drop n bs h k b = rw (getD-drop n bs k 0) (byte-below bs h (n + k))
 
 number-below : (w : ℕ) (bs : Bytes) → ByteSized bs → number w bs < 256 ^ w
@@ -39,7 +39,7 @@ number-below (suc w) bs h =
     omega arith
 
 -- a field is no more than the largest number of its bytes, or than the one that it takes over
-field-below : (f : Format) (i before : ℕ) (bs : Bytes) → before < 256 ^ getD (f .widths) i 0 → ByteSized bs → field f i before bs < 256 ^ getD (f .widths) i 0
+pub field-below : (f : Format) (i before : ℕ) (bs : Bytes) → before < 256 ^ getD (f .widths) i 0 → ByteSized bs → field f i before bs < 256 ^ getD (f .widths) i 0
 unfolding field
 field-below f i before bs l h = step (bit (mapByte bs) i)
   where
@@ -55,13 +55,21 @@ field-below f i before bs l h = step (bit (mapByte bs) i)
 
 -- ---- what is left behind a record
 
-linkRecord-is : (f : Format) (nodes : ℕ) (start : Bool) (before : Link) (bs : Bytes) (l : Link) (rest : Bytes) → linkRecord f nodes start before bs ≡ accepted l rest
+pub linkRecord-is : (f : Format) (nodes : ℕ) (start : Bool) (before : Link) (bs : Bytes) (l : Link) (rest : Bytes) → linkRecord f nodes start before bs ≡ accepted l rest
     → (linkIn f before bs ≡ l) × (drop (recordLength f bs) bs ≡ rest)
 unfolding linkRecord
 linkRecord-is f nodes start before bs l rest e =
     let r = unless-accepted (firstFailing (shapeChecks f start bs ++ valueChecks f nodes (linkIn f before bs))) _ e in (cc, cc)
 
-headerRecord-rest : (sheet : Bytes) (c : Counts) (rest : Bytes) → headerRecord sheet ≡ accepted c rest → drop 5 sheet ≡ rest
+-- and the record was there
+pub linkRecord-there : (f : Format) (nodes : ℕ) (start : Bool) (before : Link) (bs : Bytes) (l : Link) (rest : Bytes) → linkRecord f nodes start before bs ≡ accepted l rest
+    → recordLength f bs ≤ length bs
+unfolding linkRecord shapeChecks valueChecks
+linkRecord-there f nodes start before bs l rest e =
+    let cs : List Check = shapeChecks f start bs ++ valueChecks f nodes (linkIn f before bs) in
+    ltb-false (length bs) (recordLength f bs) (passed 9 cs refl (unless-accepted (firstFailing cs) _ e .0))
+
+pub headerRecord-rest : (sheet : Bytes) (c : Counts) (rest : Bytes) → headerRecord sheet ≡ accepted c rest → drop 5 sheet ≡ rest
 unfolding headerRecord
 headerRecord-rest sheet c rest e = let r = unless-accepted (firstFailing (check 3 (ltb (length sheet) 5) ∷ countChecks (countsIn sheet))) _ e in cc
 

@@ -1,33 +1,106 @@
--- Units already sold, and requests F-2 and F-3. F-2: what document 01's format accepts is accepted with the same network, and each of its
--- refusals other than 11 is given; 11 never is, and eight bytes hold the sums. F-3: every sheet reads as in the format of F-2, and
--- where its trees are a packing the report area holds the same bytes. Assumes nothing.
+-- Units already sold, and requests F-2, F-3 and F-9. F-2: what document 01's format accepts is accepted with the same network, and each of
+-- its refusals other than 11 is given; 11 never is, and eight bytes hold the sums. F-3: every sheet reads as in the format of F-2, and
+-- where its trees are a packing the report area holds the same bytes. F-9: every sheet reads as before, unless a link record that units
+-- already sold come to has bit 3, and then they refuse it by 8; what they accept has trunk number 0 for each link. Assumes nothing.
 use Prim.Native.Nat.{ℕ, _*_, _^_, _<_}
 use mathlib.Core.Path.{_≡_, refl, sym, ap, _∙_}
+use mathlib.Core.Logic.{_⊎_, inl, inr}
+use mathlib.Core.Bool.{true, false}
 use native.Mathlib.Omega.{arith}
-use Rattle.cuts.specs.Network.{Network}
+use lib.ListN.{replicate}
+use Rattle.cuts.specs.Network.{Network, linkCount}
 use Rattle.cuts.specs.Cut.{Side, cutWeight}
 use Rattle.cuts.specs.Bound.{shares, Packed}
+use Rattle.cuts.proofs.FlagLaws.{truth}
 use Rattle.cuts.proofs.LimitLaws.{side-fits, shares-fit}
 use Rattle.cuts.proofs.Sold.{answer-before}
 use Rattle.sheet.specs.Bytes.{Bytes, ByteSized}
 use Rattle.sheet.specs.Reading.{accepted, refused, numberOf}
-use Rattle.sheet.specs.Sheet.{base, wide, current, fieldStart, field, linkIn, shapeChecks, valueChecks, linkRecord, decodeBody, decode}
+use Rattle.sheet.specs.Sheet.{base, wide, tolerant, current, fieldStart, field, linkIn, shapeChecks, valueChecks, linkRecord, decodeBody, decode}
 use Rattle.sheet.specs.Areas.{reportBytes, reportAfter}
+use Rattle.sheet.specs.Trunks.{trunks}
+use Rattle.sheet.specs.Plain.{marked}
 use Rattle.sheet.proofs.Sizes.{decode-light, decode-below}
 use Rattle.sheet.proofs.Agree.{Agree}
 use Rattle.sheet.proofs.Raised.{decode-raised}
+use Rattle.sheet.proofs.MarkLaws.{marked-same, decode-unmarked, decode-marked}
+use Rattle.sheet.proofs.TrunkLaws.{trunks-unmarked}
 
--- but for 11 their outcome is the one in force
-unchanged : (sheet : Bytes) → Agree 11 (decode base sheet) (decode current sheet)
-unchanged = decode-raised base (current .weightLimit) (current .sumWidth) (current .counting) (omega arith)
+-- ---- bit 3
 
--- "every sheet accepted before"
-pub accepted-before : (sheet : Bytes) (net : Network) (rest : Bytes) → decode base sheet ≡ accepted net rest → decode current sheet ≡ accepted net rest
-accepted-before sheet net rest e = unchanged sheet (λ q. omega (arith, sym (ap numberOf e) ∙ q)) ∙ e
+-- "Units already sold turn such a sheet down, with 8 unless an earlier check refuses first": in each of their formats a link record that
+-- they come to is one whose header and links in front of it passed every check
+pub base-marked : (sheet : Bytes) → marked base sheet ≡ true → decode base sheet ≡ refused 8
+base-marked = decode-marked base (omega arith)
 
--- "a sheet refused before with a number other than 11 keeps it"
-pub refused-before : (sheet : Bytes) (n : ℕ) → decode base sheet ≡ refused n → (n ≡ 11 → ⊥) → decode current sheet ≡ refused n
-refused-before sheet n e other = unchanged sheet (λ q. other (sym (ap numberOf e) ∙ q)) ∙ e
+pub wide-marked : (sheet : Bytes) → marked wide sheet ≡ true → decode wide sheet ≡ refused 8
+wide-marked = decode-marked wide (omega arith)
+
+pub tolerant-marked : (sheet : Bytes) → marked tolerant sheet ≡ true → decode tolerant sheet ≡ refused 8
+tolerant-marked = decode-marked tolerant (omega arith)
+
+module _ (sheet : Bytes) where
+  -- so whatever they do not refuse by 8 has no bit 3
+  unmarked-unless : (numberOf (decode tolerant sheet) ≡ 8 → marked current sheet ≡ false) → marked tolerant sheet ≡ false
+  unmarked-unless other = step (truth (marked tolerant sheet))
+    where
+      step : (marked tolerant sheet ≡ true) ⊎ (marked tolerant sheet ≡ false) → marked tolerant sheet ≡ false
+      step (inl e) = sym (marked-same sheet) ∙ other (ap numberOf (tolerant-marked sheet e))
+      step (inr e) = e
+
+  -- "A sheet without the bit gets the panel reader's old answer"
+  pub reads-before : (numberOf (decode tolerant sheet) ≡ 8 → marked current sheet ≡ false) → decode current sheet ≡ decode tolerant sheet
+  reads-before other = decode-unmarked sheet (unmarked-unless other)
+
+-- ---- the formats of F-3, F-2 and document 01
+
+-- the three formats read the same fields, and the rule for the floor changes no network
+pub reads-as-wide : (sheet : Bytes) → decode tolerant sheet ≡ decode wide sheet
+unfolding decode decodeBody linkRecord linkIn field fieldStart shapeChecks valueChecks
+reads-as-wide sheet = refl
+
+-- but for 11 the outcome of document 01's format is that of F-2
+raised-same : (sheet : Bytes) → Agree 11 (decode base sheet) (decode tolerant sheet)
+raised-same = decode-raised base (tolerant .weightLimit) (tolerant .sumWidth) (tolerant .counting) (omega arith)
+
+module _ (sheet : Bytes) (net : Network) (rest : Bytes) where
+  kept : decode tolerant sheet ≡ accepted net rest → decode current sheet ≡ accepted net rest
+  kept e = reads-before sheet (λ q. absurd (let z = sym (ap numberOf e) ∙ q in omega arith)) ∙ e
+
+  raised : decode base sheet ≡ accepted net rest → decode tolerant sheet ≡ accepted net rest
+  raised e = raised-same sheet (λ q. omega (arith, sym (ap numberOf e) ∙ q)) ∙ e
+
+  -- F-2: "every sheet accepted before"
+  pub accepted-before : decode base sheet ≡ accepted net rest → decode current sheet ≡ accepted net rest
+  accepted-before e = kept (raised e)
+
+  pub accepted-as-wide : decode wide sheet ≡ accepted net rest → decode current sheet ≡ accepted net rest
+  accepted-as-wide e = kept (reads-as-wide sheet ∙ e)
+
+  none-marked : decode tolerant sheet ≡ accepted net rest → trunks current sheet ≡ accepted (replicate (linkCount net) 0) rest
+  none-marked e =
+      trunks-unmarked current sheet net rest
+      (marked-same sheet ∙ unmarked-unless sheet (λ q. absurd (let z = sym (ap numberOf e) ∙ q in omega arith))) (kept e)
+
+  -- and for each of its links the crew's reader gives trunk number 0
+  pub no-trunks-before : decode base sheet ≡ accepted net rest → trunks current sheet ≡ accepted (replicate (linkCount net) 0) rest
+  no-trunks-before e = none-marked (raised e)
+
+  pub no-trunks-as-wide : decode wide sheet ≡ accepted net rest → trunks current sheet ≡ accepted (replicate (linkCount net) 0) rest
+  no-trunks-as-wide e = none-marked (reads-as-wide sheet ∙ e)
+
+module _ (sheet : Bytes) (n : ℕ) (unmarked : n ≡ 8 → marked current sheet ≡ false) where
+  same-refusal : decode tolerant sheet ≡ refused n → decode current sheet ≡ refused n
+  same-refusal e = reads-before sheet (λ q. unmarked (sym (ap numberOf e) ∙ q)) ∙ e
+
+  -- F-2: "a sheet refused before with a number other than 11 keeps it"; F-9: by 8 where no link record has bit 3
+  pub refused-before : decode base sheet ≡ refused n → (n ≡ 11 → ⊥) → decode current sheet ≡ refused n
+  refused-before e other = same-refusal (raised-same sheet (λ q. other (sym (ap numberOf e) ∙ q)) ∙ e)
+
+  pub refused-as-wide : decode wide sheet ≡ refused n → decode current sheet ≡ refused n
+  refused-as-wide e = same-refusal (reads-as-wide sheet ∙ e)
+
+-- ---- F-2
 
 -- "number 11 no longer occurs in a sheet"
 pub never-11 : (sheet : Bytes) → ByteSized sheet → numberOf (decode current sheet) ≡ 11 → ⊥
@@ -39,10 +112,6 @@ pub sums-fit : (sheet : Bytes) → ByteSized sheet → (net : Network) (rest : B
 sums-fit sheet h net rest e = let l = decode-light current refl sheet h net rest e in (side-fits net (l .0), shares-fit (net .trees) (l .1))
 
 -- ---- F-3
-
-pub reads-as-wide : (sheet : Bytes) → decode current sheet ≡ decode wide sheet
-unfolding decode decodeBody linkRecord linkIn field fieldStart shapeChecks valueChecks
-reads-as-wide sheet = refl
 
 pub report-before : (net : Network) → Packed net (net .trees) → (old : Bytes) → reportAfter current net old ≡ reportAfter wide net old
 unfolding reportBytes

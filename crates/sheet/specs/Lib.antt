@@ -2,3 +2,5 @@ pub mod Bytes
 pub mod Reading
 pub mod Sheet
 pub mod Areas
+pub mod Trunks
+pub mod Plain

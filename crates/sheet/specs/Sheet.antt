@@ -6,6 +6,7 @@
 --   base                         document 01's format, of units already sold
 --   wide                         the format of request F-2
 --   tolerant                     the format of request F-3
+--   trunked                      the format of request F-9
 --   current                      the format in force
 --   Counts                       how many nodes, links and trees there are
 --   countsIn sheet               the header's three counts
@@ -64,8 +65,12 @@ wide = record { widths = base .widths; weightLimit = 4_294_967_295; sumWidth = 8
 abbrev pub tolerant : Format
 tolerant = record { widths = wide .widths; weightLimit = wide .weightLimit; sumWidth = wide .sumWidth; counting = longestRun }
 
+-- "Bit 3 of a link's map adds a 2-byte trunk number after the weight"
+abbrev pub trunked : Format
+trunked = record { widths = 2 ∷ 2 ∷ 4 ∷ 2 ∷ []; weightLimit = tolerant .weightLimit; sumWidth = tolerant .sumWidth; counting = tolerant .counting }
+
 abbrev pub current : Format
-current = tolerant
+current = trunked
 
 -- ---- header
 

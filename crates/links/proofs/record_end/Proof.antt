@@ -37,13 +37,13 @@ sub-if4 c = search needs
 sub-if4-2 : tie.Need-sub-if4-2
 sub-if4-2 c = search needs
 
--- the map byte of link 0 has all three bits
+-- the map byte of link 0 has its three lowest bits
 start-seven : (c : tie.Joined2) → let a = c .before .before .before .before .args in a .start ≡ true → getD (a .s .now) (a .at) 0 % 8 ≡ 7
 start-seven c = ⊎-elim (λ w e. clash e (w .1 .left)) (λ w e. omega arith) (c .if2 .came)
 
 -- the map byte is allowed, and n is the length of its fields
 allowed : (c : tie.After-n) → let a = c .before .before .before .before .before .before .before .args in
-    (getD (a .s .now) (a .at) 0 < 8) × (c .n .given .0 .0 ≡ fieldStart current (getD (a .s .now) (a .at) 0) 3)
+    (getD (a .s .now) (a .at) 0 < 16) × (c .n .given .0 .0 ≡ fieldStart current (getD (a .s .now) (a .at) 0) 4)
 allowed c = fieldsOf-allowed current _ _ (sym (ap fieldsSay (c .n .given .1)) ∙ c .before .before .field-bytes .ensures)
 
 returns-3 : tie.Need-returns-3
