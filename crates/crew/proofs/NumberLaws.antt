@@ -1,0 +1,99 @@
+-- What the crew's reader reads of a sheet that the panel reader has read: an accepted sheet has its link records behind the header, and a
+-- refused one has no trunk numbers. Assumes nothing.
+use Prim.Native.Nat.{ℕ, _≤_}
+use mathlib.Core.Path.{_≡_, refl, sym, ap, ap₂, _∙_}
+use mathlib.Core.List.{List, [], _∷_}
+use native.Mathlib.Omega.{arith}
+use lib.ListN.{length, take, drop, length-append, length-drop}
+use lib.Seq.{take-at}
+use lib.Dec.{ltb}
+use Rattle.cuts.specs.Network.{Network, linkCount}
+use Rattle.sheet.specs.Bytes.{Bytes, number}
+use Rattle.sheet.specs.Reading.{check, firstFailing, Reading, accepted, refused, numberOf, andThen}
+use Rattle.sheet.specs.Sheet.{Format, Counts, countsIn, countChecks, headerRecord, nextLink, decode}
+use Rattle.sheet.specs.Areas.{written}
+use Rattle.sheet.specs.Trunks.{trunksFrom, trunks}
+use Rattle.links.specs.Answers.{LinksThere}
+use Rattle.text.specs.Line.{refusedLine}
+use Rattle.crew.specs.Numbers.{TrunksRead}
+use Rattle.crew.specs.Output.{linesFrom, output}
+use Rattle.sheet.proofs.ReadingLaws.{unless-accepted, records-counted}
+use Rattle.sheet.proofs.Acceptance.{decode-parts, decode-accepted, decode-zero}
+use Rattle.sheet.proofs.Sizes.{headerRecord-rest}
+use Rattle.sheet.proofs.TrunkLaws.{trunks-refused, trunksFrom-length, trunks-accepted}
+use Rattle.reader.proofs.SheetLaws.{header-whole}
+
+header-counts : (sheet : Bytes) (c : Counts) (rest : Bytes) → headerRecord sheet ≡ accepted c rest → countsIn sheet ≡ c
+unfolding headerRecord
+header-counts sheet c rest e = let r = unless-accepted (firstFailing (check 3 (ltb (length sheet) 5) ∷ countChecks (countsIn sheet))) _ e in cc
+
+module _ (f : Format) (sheet : Bytes) where
+  module _ (net : Network) (rest : Bytes) (e : decode f sheet ≡ accepted net rest) where
+    links-counted : decode-parts f sheet net rest e .counts .links ≡ linkCount net
+    links-counted = let p = decode-parts f sheet net rest e in let c = records-counted (nextLink f (net .nodes)) (p .counts .links) [] (p .body) (p .links-read) in omega arith
+
+    pub links-there : LinksThere f sheet 5 (linkCount net)
+    links-there =
+        let p = decode-parts f sheet net rest e in
+        record {
+          nodes = net .nodes;
+          links = net .links;
+          rest = p .behind;
+          are-read = rw (headerRecord-rest sheet (p .counts) (p .body) (p .header-read), ← links-counted) (p .links-read);
+        }
+
+    -- the header says how many links there are
+    pub header-links : (5 ≤ length sheet) × (number 2 (drop 2 sheet) ≡ linkCount net) × (linkCount net ≤ 2048)
+    unfolding countsIn
+    header-links =
+        let p = decode-parts f sheet net rest e in
+        let w = header-whole sheet (p .counts) (p .body) (sym (p .header-read)) in
+        (w, ap (λ (c : Counts). c .links) (header-counts sheet (p .counts) (p .body) (p .header-read)) ∙ links-counted, decode-accepted f sheet net rest e .links-most)
+
+  trunks-none : (n : ℕ) → decode f sheet ≡ refused n → trunks f sheet ≡ refused n
+  unfolding trunks
+  trunks-none n e = ap (λ (r : Reading Network). andThen r (λ net end. accepted (trunksFrom f (linkCount net) 0 (drop 5 sheet)) end)) e
+
+  module _ (numbers : List ℕ) where
+    pub numbers-read : (net : Network) → decode f sheet ≡ accepted net [] → (numbers′ : List ℕ) → numbers′ ≡ written (trunksFrom f (linkCount net) 0 (drop 5 sheet)) numbers
+        → TrunksRead f sheet numbers numbers′ 0
+    numbers-read net e numbers′ q = let t = trunks-accepted f sheet net [] e in record { number = rw t; numbers-are = rw t q }
+
+    pub numbers-refused : (n : ℕ) → decode f sheet ≡ refused n → TrunksRead f sheet numbers numbers n
+    numbers-refused n e = let t = trunks-none n e in record { number = rw t; numbers-are = rw t }
+
+  module _ {numbers numbers′ : List ℕ} {n : ℕ} (said : TrunksRead f sheet numbers numbers′ n) where
+    -- the area stays as long as it was
+    pub numbers-kept : length numbers ≡ 2048 → length numbers′ ≡ 2048
+    numbers-kept l = step (decode f sheet) refl
+      where
+        step : (r : Reading Network) → decode f sheet ≡ r → length numbers′ ≡ 2048
+        step (accepted net rest) e =
+            let t = trunks-accepted f sheet net rest e in
+            let ts : List ℕ = trunksFrom f (linkCount net) 0 (drop 5 sheet) in
+            let a = ap length (rw t at (said .numbers-are)) in
+            let b = length-append ts (drop (length ts) numbers) in
+            let c = length-drop (length ts) numbers in
+            let d = trunksFrom-length f (linkCount net) 0 (drop 5 sheet) in
+            let m = decode-accepted f sheet net rest e .links-most in
+            omega arith
+        step (refused n) e = ap length (rw (trunks-none n e) at (said .numbers-are)) ∙ l
+
+    -- where they were read, the area has as many as the header counts links, and these are printed
+    pub accepted-output : n ≡ 0 → (5 ≤ length sheet) × (number 2 (drop 2 sheet) ≤ 2048) × (linesFrom 0 (take (number 2 (drop 2 sheet)) numbers′) ≡ output (trunks f sheet))
+    accepted-output z =
+        let d = decode-zero f sheet (sym (said .number ∙ trunks-refused f sheet) ∙ z) in
+        let net : Network = d .0 in
+        let h = header-links net [] (d .1) in
+        let t = trunks-accepted f sheet net [] (d .1) in
+        let ts : List ℕ = trunksFrom f (linkCount net) 0 (drop 5 sheet) in
+        let front : numbers′ ≡ written ts numbers = rw t at (said .numbers-are) in
+        let size = trunksFrom-length f (linkCount net) 0 (drop 5 sheet) in
+        (h .0, omega (arith, h .1, h .2), rw t (ap (linesFrom 0) (ap₂ take (h .1) front ∙ take-at ts _ (linkCount net) size)))
+
+    pub refused-output : (n ≡ 0 → ⊥) → refusedLine n ≡ output (trunks f sheet)
+    refused-output z = step (trunks f sheet) (said .number)
+      where
+        step : (r : Reading (List ℕ)) → n ≡ numberOf r → refusedLine n ≡ output r
+        step (accepted ts rest) e = absurd (z e)
+        step (refused m) e = ap refusedLine e

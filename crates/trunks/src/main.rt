@@ -1,0 +1,21 @@
+// The cable crew's program: reads a sheet from standard input and prints the trunk number of each link, or the sheet's refusal.
+use crew::lines::MOST_OUTPUT;
+use crew::lines::trunk_lines;
+use libc::STDIN_FILENO;
+use libc::STDOUT_FILENO;
+
+// Bytes of the input behind these are not read.
+const MOST_INPUT: usize = 32768;
+
+// Reads until the buffer is full or the input ends, and prints what the bytes read give.
+fn print_trunks(input: &mut [u8]) {
+    let read = io::read_full(STDIN_FILENO, input);
+    let mut out = [0u8; MOST_OUTPUT];
+    let written = trunk_lines(&input[..read], &mut out);
+    io::write_all(STDOUT_FILENO, &out[..written]);
+}
+
+fn main() {
+    let mut input = [0u8; MOST_INPUT];
+    print_trunks(&mut input);
+}
