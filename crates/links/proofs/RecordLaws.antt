@@ -3,7 +3,7 @@
 use Prim.Native.Nat.{ℕ, suc, _+_, _-_, _*_, _/_, _%_, _^_, _≤_, _<_}
 use mathlib.Core.Path.{_≡_, refl, ap, _∙_}
 use mathlib.Core.Logic.{_⊎_, inl, inr, ⊎-elim}
-use mathlib.Core.Bool.{Bool, true, false, _&&_, _||_, not, cond}
+use mathlib.Core.Bool.{Bool, true, false, _||_, cond}
 use native.Mathlib.Nat.{eq-or-lt-of-le}
 use native.Mathlib.Omega.{arith}
 use lib.ListN.{length, getD, drop, length-drop}
@@ -14,7 +14,7 @@ use Rattle.cuts.specs.Network.{Link}
 use Rattle.cuts.proofs.FlagLaws.{truth, or-left, or-right}
 use Rattle.sheet.specs.Bytes.{Bytes, number}
 use Rattle.sheet.specs.Reading.{firstFailing, accepted, refused, unless}
-use Rattle.sheet.specs.Sheet.{Format, current, fieldStart, recordLength, field, linkIn, shapeChecks, valueChecks, linkRecord}
+use Rattle.sheet.specs.Sheet.{Format, current, fieldStart, recordLength, field, linkIn, wrongMap, shapeChecks, valueChecks, linkRecord}
 use Rattle.links.specs.Answers.{fieldsOf}
 use Rattle.sheet.proofs.ReadingLaws.{unless-append, unless-refused}
 use Rattle.sheet.proofs.Acceptance.{GoodLink}
@@ -107,10 +107,6 @@ module _ (at m : ℕ) (s : Bytes) (e : m ≡ getD s at 0) where
         λ i. record { first = (p ∙ first-at (before .first)) i; second = (q ∙ second-at (before .second)) i; weight = (r ∙ weight-at (before .weight)) i }
 
 -- ---- which check a link record fails
-
--- what refusal 8 says of a map byte
-abbrev wrongMap : Format → Bool → ℕ → Bool
-wrongMap f start m = leb (2 ^ length (f .widths)) m || (start && not (eqb (m % 8) 7))
 
 wrong-start : (f : Format) (m : ℕ) → (m < 2 ^ length (f .widths) → m % 8 ≡ 7 → ⊥) → wrongMap f true m ≡ true
 wrong-start f m h = step (truth (leb (2 ^ length (f .widths)) m))

@@ -16,7 +16,7 @@ use Rattle.cuts.specs.Network.{Link, noLink}
 use Rattle.cuts.proofs.FlagLaws.{clash, truth}
 use Rattle.sheet.specs.Bytes.{Bytes, bit}
 use Rattle.sheet.specs.Reading.{Check, check, firstFailing, accepted, refused, unless}
-use Rattle.sheet.specs.Sheet.{Format, tolerant, trunked, mapByte, fieldStart, recordLength, field, linkIn, shapeChecks, valueChecks, linkRecord, nextLink, decode}
+use Rattle.sheet.specs.Sheet.{Format, tolerant, trunked, mapByte, fieldStart, recordLength, field, linkIn, wrongMap, shapeChecks, valueChecks, linkRecord, nextLink, decode}
 use Rattle.sheet.specs.Plain.{trunkMarked, marked}
 use Rattle.sheet.proofs.ComesTo.{decode-stopped, linkComesTo-same, decode-same}
 
@@ -29,7 +29,7 @@ pub bit-clear : (m : ℕ) → bit m 3 ≡ false → m / 8 % 2 ≡ 0
 bit-clear m e = let d = eqb-false (m / 8 % 2) 1 e in omega arith
 
 -- "For the new readers number 8 begins at 16, and link 0's map must be 7 or 15"
-pub map-allowed : (start : Bool) (m : ℕ) → (leb (2 ^ length (trunked .widths)) m || (start && not (eqb (m % 8) 7))) ≡ (leb 16 m || (start && not (eqb m 7 || eqb m 15)))
+pub map-allowed : (start : Bool) (m : ℕ) → wrongMap trunked start m ≡ (leb 16 m || (start && not (eqb m 7 || eqb m 15)))
 map-allowed start m = step (decLt m 16)
   where
     low : m < 16 → eqb (m % 8) 7 ≡ (eqb m 7 || eqb m 15)

@@ -16,7 +16,7 @@ use Rattle.cuts.specs.Network.{Link, noLink}
 use Rattle.cuts.proofs.FlagLaws.{clash, neither, truth}
 use Rattle.sheet.specs.Bytes.{Bytes, number, bit}
 use Rattle.sheet.specs.Reading.{check, firstFailing, Reading, accepted, refused, numberOf, unless, andThen, records}
-use Rattle.sheet.specs.Sheet.{tolerant, trunked, Counts, countsIn, countChecks, headerRecord, fieldStart, recordLength, field, linkIn, valueChecks, linkRecord, nextLink, treesBehind, decodeBody, decode}
+use Rattle.sheet.specs.Sheet.{tolerant, trunked, Counts, countsIn, countChecks, headerRecord, fieldStart, recordLength, field, linkIn, valueChecks, linkRecord, nextLink, treesBehind, decodeBody, decode, wrongMap}
 use Rattle.sheet.specs.Plain.{trunkMarked, whenRead, comesTo, linkComesTo, marked, trunkCut, cutOff, unmarked, plainRecord, plainLinks, plain}
 use Rattle.sheet.proofs.ReadingLaws.{unless-accepted, Never, unless-never, andThen-never, never-number}
 use Rattle.sheet.proofs.Acceptance.{trees-never}
@@ -24,7 +24,7 @@ use Rattle.sheet.proofs.Sizes.{linkRecord-is}
 use Rattle.sheet.proofs.Longest.{countsIn-front}
 use Rattle.sheet.proofs.ComesTo.{decode-stopped}
 use Rattle.sheet.proofs.MarkLaws.{recordLength-trunk, decode-unmarked}
-use Rattle.sheet.proofs.PlainRecords.{start-trunk, whole-fields, linkRecord-plain, linkRecord-empty, linkRecord-map, linkRecord-whole, unmarked-cases, rest-plain, recordLength-plain, instead, badMap, fieldsLength}
+use Rattle.sheet.proofs.PlainRecords.{start-trunk, whole-fields, linkRecord-plain, linkRecord-empty, linkRecord-map, linkRecord-whole, unmarked-cases, rest-plain, recordLength-plain, instead, fieldsLength}
 
 -- ---- the links
 
@@ -156,10 +156,10 @@ module _ (nodes : ℕ) where
       (sym (linkRecord-empty tolerant nodes (eqb (length got) 0) (getD got (length got - 1) noLink))) (λ e. omega arith)
 
   module _ (start : Bool) (before : Link) (m : ℕ) (bs : Bytes) (nine : numberOf (linkRecord trunked nodes start before (m ∷ bs)) ≡ 9) where
-    nine-map : badMap trunked start m ≡ false
-    nine-map = step (truth (badMap trunked start m))
+    nine-map : wrongMap trunked start m ≡ false
+    nine-map = step (truth (wrongMap trunked start m))
       where
-        step : (badMap trunked start m ≡ true) ⊎ (badMap trunked start m ≡ false) → badMap trunked start m ≡ false
+        step : (wrongMap trunked start m ≡ true) ⊎ (wrongMap trunked start m ≡ false) → wrongMap trunked start m ≡ false
         step (inl e) = let z : _≡_ {A = ℕ} 8 9 = sym (ap numberOf (linkRecord-map trunked nodes start before m bs e)) ∙ nine in absurd (omega arith)
         step (inr e) = e
 

@@ -19,7 +19,7 @@ use Rattle.cuts.proofs.FlagLaws.{truth}
 use Rattle.cuts.proofs.SumLaws.{sum-congr, sum-less}
 use Rattle.sheet.specs.Bytes.{Bytes, number, bit}
 use Rattle.sheet.specs.Reading.{check, firstFailing, Reading, accepted, refused, numberOf, unless}
-use Rattle.sheet.specs.Sheet.{Format, tolerant, trunked, fieldStart, recordLength, field, linkIn, shapeChecks, valueChecks, linkRecord}
+use Rattle.sheet.specs.Sheet.{Format, tolerant, trunked, fieldStart, recordLength, field, linkIn, wrongMap, shapeChecks, valueChecks, linkRecord}
 use Rattle.sheet.specs.Plain.{unmarked}
 use Rattle.sheet.proofs.Longest.{number-front, drop-front}
 use Rattle.sheet.proofs.MarkLaws.{bit-set, bit-clear, recordLength-trunk, linkIn-trunk}
@@ -45,12 +45,8 @@ start-unmarked : (m i : ℕ) → i ≤ 3 → fieldStart tolerant (unmarked m) i 
 unfolding fieldStart
 start-unmarked m i l = sum-congr i _ _ (λ j b. ap (λ (c : Bool). only c (getD (tolerant .widths) j 0)) (bit-unmarked m j (omega arith)))
 
--- whether refusal 8 is given, for link 0 and for others
-abbrev pub badMap : Format → Bool → ℕ → Bool
-badMap f start m = leb (2 ^ length (f .widths)) m || (start && not (eqb (m % 8) 7))
-
-badMap-unmarked : (start : Bool) (m : ℕ) → badMap tolerant start (unmarked m) ≡ badMap trunked start m
-badMap-unmarked start m = ap₂ (λ (a : Bool) (d : ℕ). a || (start && not (eqb d 7))) (unmarked-cases (λ n. leb 8 n ≡ leb 16 m) m set clear) (unmarked-cases (λ n. n % 8 ≡ m % 8) m (λ e. omega arith) (λ e. refl))
+wrongMap-unmarked : (start : Bool) (m : ℕ) → wrongMap tolerant start (unmarked m) ≡ wrongMap trunked start m
+wrongMap-unmarked start m = ap₂ (λ (a : Bool) (d : ℕ). a || (start && not (eqb d 7))) (unmarked-cases (λ n. leb 8 n ≡ leb 16 m) m set clear) (unmarked-cases (λ n. n % 8 ≡ m % 8) m (λ e. omega arith) (λ e. refl))
   where
     both : (n : ℕ) → (16 ≤ m → 8 ≤ n) → (m < 16 → n < 8) → leb 8 n ≡ leb 16 m
     both n p q = step (decLe 16 m)
@@ -73,15 +69,15 @@ module _ (f : Format) (nodes : ℕ) (start : Bool) (before : Link) where
   linkRecord-empty = refl
 
   module _ (m : ℕ) (bs : Bytes) where
-    pub linkRecord-map : badMap f start m ≡ true → linkRecord f nodes start before (m ∷ bs) ≡ refused 8
+    pub linkRecord-map : wrongMap f start m ≡ true → linkRecord f nodes start before (m ∷ bs) ≡ refused 8
     unfolding linkRecord shapeChecks firstFailing
     linkRecord-map e = rw (ne-eqb (suc (length bs)) 0 (λ q. omega arith), e)
 
-    linkRecord-short : badMap f start m ≡ false → length (m ∷ bs) < recordLength f (m ∷ bs) → linkRecord f nodes start before (m ∷ bs) ≡ refused 9
+    linkRecord-short : wrongMap f start m ≡ false → length (m ∷ bs) < recordLength f (m ∷ bs) → linkRecord f nodes start before (m ∷ bs) ≡ refused 9
     unfolding linkRecord shapeChecks firstFailing
     linkRecord-short e l = rw (ne-eqb (suc (length bs)) 0 (λ q. omega arith), e, lt-ltb (length (m ∷ bs)) (recordLength f (m ∷ bs)) l)
 
-    pub linkRecord-whole : badMap f start m ≡ false → recordLength f (m ∷ bs) ≤ length (m ∷ bs) → linkRecord f nodes start before (m ∷ bs)
+    pub linkRecord-whole : wrongMap f start m ≡ false → recordLength f (m ∷ bs) ≤ length (m ∷ bs) → linkRecord f nodes start before (m ∷ bs)
         ≡ unless (firstFailing (valueChecks f nodes (linkIn f before (m ∷ bs)))) (accepted (linkIn f before (m ∷ bs)) (drop (recordLength f (m ∷ bs)) (m ∷ bs)))
     unfolding linkRecord shapeChecks firstFailing
     linkRecord-whole e l = rw (ne-eqb (suc (length bs)) 0 (λ q. omega arith), e, le-ltb (length (m ∷ bs)) (recordLength f (m ∷ bs)) l)
@@ -154,16 +150,16 @@ module _ (nodes : ℕ) (start : Bool) (before : Link) (m : ℕ) (bs later : Byte
   taken = linkRecord trunked nodes start before (m ∷ bs)
 
   -- all fields but the trunk number are there
-  pub whole-fields : badMap trunked start m ≡ false → fieldsLength m ≤ length bs → linkRecord tolerant nodes start before (unmarked m ∷ take (fieldsLength m) bs ++ later)
+  pub whole-fields : wrongMap trunked start m ≡ false → fieldsLength m ≤ length bs → linkRecord tolerant nodes start before (unmarked m ∷ take (fieldsLength m) bs ++ later)
       ≡ unless (firstFailing (valueChecks tolerant nodes (linkIn tolerant before (m ∷ bs)))) (accepted (linkIn tolerant before (m ∷ bs)) later)
   whole-fields e fits =
       let x : Bytes = take (fieldsLength m) bs ++ later in
       let size : length (take (fieldsLength m) bs) ≡ fieldsLength m = length-take-le (fieldsLength m) bs fits in
       let short : recordLength tolerant (unmarked m ∷ x) ≤ length (unmarked m ∷ x) = let r = recordLength-plain m x in let a = length-append (take (fieldsLength m) bs) later in omega arith in
-      linkRecord-whole tolerant nodes start before (unmarked m) x (badMap-unmarked start m ∙ e) short
+      linkRecord-whole tolerant nodes start before (unmarked m) x (wrongMap-unmarked start m ∙ e) short
       ∙ ap₂ (λ (l : Link) (rest : Bytes). unless (firstFailing (valueChecks tolerant nodes l)) (accepted l rest)) (linkIn-plain m bs later fits before) (rest-plain m bs later fits)
 
-  whole-plain : badMap trunked start m ≡ false → recordLength trunked (m ∷ bs) ≤ length (m ∷ bs) → linkRecord tolerant nodes start before (unmarked m ∷ take (fieldsLength m) bs ++ later) ≡ instead later taken
+  whole-plain : wrongMap trunked start m ≡ false → recordLength trunked (m ∷ bs) ≤ length (m ∷ bs) → linkRecord tolerant nodes start before (unmarked m ∷ take (fieldsLength m) bs ++ later) ≡ instead later taken
   unfolding valueChecks
   whole-plain e l =
       whole-fields e (let r = recordLength-trunk (m ∷ bs) in omega arith)
@@ -171,30 +167,30 @@ module _ (nodes : ℕ) (start : Bool) (before : Link) (m : ℕ) (bs later : Byte
       ∙ unless-instead later (firstFailing (valueChecks trunked nodes (linkIn trunked before (m ∷ bs)))) (linkIn trunked before (m ∷ bs)) (drop (recordLength trunked (m ∷ bs)) (m ∷ bs))
       ∙ ap (instead later) (sym (linkRecord-whole trunked nodes start before m bs e l))
 
-  short-plain : badMap trunked start m ≡ false → length bs < fieldsLength m → later ≡ [] → linkRecord tolerant nodes start before (unmarked m ∷ take (fieldsLength m) bs ++ later) ≡ refused 9
+  short-plain : wrongMap trunked start m ≡ false → length bs < fieldsLength m → later ≡ [] → linkRecord tolerant nodes start before (unmarked m ∷ take (fieldsLength m) bs ++ later) ≡ refused 9
   short-plain e l none =
       let x : Bytes = take (fieldsLength m) bs ++ later in
       let a = length-append (take (fieldsLength m) bs) later in
       let t : length (take (fieldsLength m) bs) ≡ length bs = ap length (take-all (fieldsLength m) bs (omega arith)) in
       let n : length later ≡ 0 = ap length none in
       let r = recordLength-plain m x in
-      linkRecord-short tolerant nodes start before (unmarked m) x (badMap-unmarked start m ∙ e) (omega arith)
+      linkRecord-short tolerant nodes start before (unmarked m) x (wrongMap-unmarked start m ∙ e) (omega arith)
 
   pub linkRecord-plain : (eqb (numberOf taken) 9 && leb (1 + fieldStart trunked m 3) (length (m ∷ bs))) ≡ false → (length bs < fieldsLength m → later ≡ [])
       → linkRecord tolerant nodes start before (unmarked m ∷ take (fieldsLength m) bs ++ later) ≡ instead later taken
-  linkRecord-plain cut none = step (truth (badMap trunked start m)) (decLe (recordLength trunked (m ∷ bs)) (length (m ∷ bs)))
+  linkRecord-plain cut none = step (truth (wrongMap trunked start m)) (decLe (recordLength trunked (m ∷ bs)) (length (m ∷ bs)))
     where
-      less : badMap trunked start m ≡ false → length (m ∷ bs) < recordLength trunked (m ∷ bs) → length bs < fieldsLength m
+      less : wrongMap trunked start m ≡ false → length (m ∷ bs) < recordLength trunked (m ∷ bs) → length bs < fieldsLength m
       less e l =
           let c : leb (1 + fieldStart trunked m 3) (length (m ∷ bs)) ≡ false = rw (linkRecord-short trunked nodes start before m bs e l) at cut in
           let d = leb-false (1 + fieldStart trunked m 3) (length (m ∷ bs)) c in
           let s : fieldStart trunked m 3 ≡ fieldsLength m = start-trunk m in
           omega arith
 
-      step : (badMap trunked start m ≡ true) ⊎ (badMap trunked start m ≡ false) → Dec (recordLength trunked (m ∷ bs) ≤ length (m ∷ bs))
+      step : (wrongMap trunked start m ≡ true) ⊎ (wrongMap trunked start m ≡ false) → Dec (recordLength trunked (m ∷ bs) ≤ length (m ∷ bs))
           → linkRecord tolerant nodes start before (unmarked m ∷ take (fieldsLength m) bs ++ later) ≡ instead later taken
       step (inl e) d =
-          linkRecord-map tolerant nodes start before (unmarked m) (take (fieldsLength m) bs ++ later) (badMap-unmarked start m ∙ e)
+          linkRecord-map tolerant nodes start before (unmarked m) (take (fieldsLength m) bs ++ later) (wrongMap-unmarked start m ∙ e)
           ∙ ap (instead later) (sym (linkRecord-map trunked nodes start before m bs e))
       step (inr e) (yes l) = whole-plain e l
       step (inr e) (no l) =

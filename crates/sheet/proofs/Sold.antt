@@ -64,30 +64,31 @@ raised-same : (sheet : Bytes) → Agree 11 (decode base sheet) (decode tolerant 
 raised-same = decode-raised base (tolerant .weightLimit) (tolerant .sumWidth) (tolerant .counting) (omega arith)
 
 module _ (sheet : Bytes) (net : Network) (rest : Bytes) where
-  kept : decode tolerant sheet ≡ accepted net rest → decode current sheet ≡ accepted net rest
-  kept e = reads-before sheet (λ q. absurd (let z = sym (ap numberOf e) ∙ q in omega arith)) ∙ e
+  -- what units already sold accept is accepted with the same network
+  pub accepted-as-tolerant : decode tolerant sheet ≡ accepted net rest → decode current sheet ≡ accepted net rest
+  accepted-as-tolerant e = reads-before sheet (λ q. absurd (let z = sym (ap numberOf e) ∙ q in omega arith)) ∙ e
 
   raised : decode base sheet ≡ accepted net rest → decode tolerant sheet ≡ accepted net rest
   raised e = raised-same sheet (λ q. omega (arith, sym (ap numberOf e) ∙ q)) ∙ e
 
   -- F-2: "every sheet accepted before"
   pub accepted-before : decode base sheet ≡ accepted net rest → decode current sheet ≡ accepted net rest
-  accepted-before e = kept (raised e)
+  accepted-before e = accepted-as-tolerant (raised e)
 
   pub accepted-as-wide : decode wide sheet ≡ accepted net rest → decode current sheet ≡ accepted net rest
-  accepted-as-wide e = kept (reads-as-wide sheet ∙ e)
-
-  none-marked : decode tolerant sheet ≡ accepted net rest → trunks current sheet ≡ accepted (replicate (linkCount net) 0) rest
-  none-marked e =
-      trunks-unmarked current sheet net rest
-      (marked-same sheet ∙ unmarked-unless sheet (λ q. absurd (let z = sym (ap numberOf e) ∙ q in omega arith))) (kept e)
+  accepted-as-wide e = accepted-as-tolerant (reads-as-wide sheet ∙ e)
 
   -- and for each of its links the crew's reader gives trunk number 0
+  pub no-trunks-as-tolerant : decode tolerant sheet ≡ accepted net rest → trunks current sheet ≡ accepted (replicate (linkCount net) 0) rest
+  no-trunks-as-tolerant e =
+      trunks-unmarked current sheet net rest
+      (marked-same sheet ∙ unmarked-unless sheet (λ q. absurd (let z = sym (ap numberOf e) ∙ q in omega arith))) (accepted-as-tolerant e)
+
   pub no-trunks-before : decode base sheet ≡ accepted net rest → trunks current sheet ≡ accepted (replicate (linkCount net) 0) rest
-  no-trunks-before e = none-marked (raised e)
+  no-trunks-before e = no-trunks-as-tolerant (raised e)
 
   pub no-trunks-as-wide : decode wide sheet ≡ accepted net rest → trunks current sheet ≡ accepted (replicate (linkCount net) 0) rest
-  no-trunks-as-wide e = none-marked (reads-as-wide sheet ∙ e)
+  no-trunks-as-wide e = no-trunks-as-tolerant (reads-as-wide sheet ∙ e)
 
 module _ (sheet : Bytes) (n : ℕ) (unmarked : n ≡ 8 → marked current sheet ≡ false) where
   same-refusal : decode tolerant sheet ≡ refused n → decode current sheet ≡ refused n

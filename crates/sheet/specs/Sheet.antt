@@ -17,6 +17,7 @@
 --   recordLength f bs            the length of that record
 --   field f i before bs          the field of bit i in that record; `before` where its bit is not set
 --   linkIn f before bs           the link of that record, where the link before it is `before`
+--   wrongMap f start m           what refusal 8 says of a map byte m; `start`: it is link 0's
 --   shapeChecks f start bs       refusals 7 to 9 of that record; `start`: it is link 0
 --   valueChecks f n l            refusals 10 and 11 of the link l, for n nodes
 --   linkRecord f n start b bs    that link, where b is the link before it, or the refusal
@@ -118,12 +119,15 @@ unfolding field
 linkIn f before bs =
     record { first = field f 0 (before .first) bs; second = field f 1 (before .second) bs; weight = field f 2 (before .weight) bs }
 
--- link 0 has both ends and a weight: the map byte's three lowest bits stand
+-- a bit that no field belongs to stands; link 0 has both ends and a weight: the three lowest bits stand
+abbrev pub wrongMap : Format → Bool → ℕ → Bool
+wrongMap f start m = leb (2 ^ length (f .widths)) m || (start && not (eqb (m % 8) 7))
+
 unfoldable pub shapeChecks : Format → Bool → Bytes → List Check
 unfolding fieldStart
 shapeChecks f start bs =
     check 7 (eqb (length bs) 0)
-    ∷ check 8 (leb (2 ^ length (f .widths)) (mapByte bs) || (start && not (eqb (mapByte bs % 8) 7)))
+    ∷ check 8 (wrongMap f start (mapByte bs))
     ∷ check 9 (ltb (length bs) (recordLength f bs))
     ∷ []
 
