@@ -1,6 +1,6 @@
-//! Networks by the kind of their trees, made at random from a fixed seed, as sheets with all fields written.
+//! Networks by the kind of their trees, made at random from a fixed seed, as sheets with all fields written, trunk numbers too.
 
-use reference::generate::Size;
+use reference::generate::{self, Size};
 use reference::random::Random;
 use reference::shapes::{self, Form, Further, Shape};
 use reference::sheet::{self, ALL_FIELDS, MOST_TREES, MOST_WEIGHT};
@@ -34,6 +34,8 @@ pub fn sheet(size: Size, kind: &Kind) -> Vec<u8> {
         further: Further::Anywhere,
         weights: (kind.least_weight, MOST_WEIGHT),
     };
-    let network = shapes::network(&mut Random::new(SEED), size, &form);
-    sheet::write_with_maps(&network, &vec![ALL_FIELDS; size.links])
+    let mut random = Random::new(SEED);
+    let network = shapes::network(&mut random, size, &form);
+    let contents = generate::with_trunks(&mut random, network);
+    sheet::write_with_maps(&contents, &vec![ALL_FIELDS; size.links])
 }

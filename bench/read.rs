@@ -1,4 +1,4 @@
-//! Sheets: from bytes to the network that they hold, or to a refusal.
+//! Sheets: from bytes to the network that they hold, or to a refusal. Trunk numbers are stepped over.
 
 #[derive(Clone, Copy)]
 pub struct Link {
@@ -74,7 +74,7 @@ fn read_links(rest: &mut &[u8], counts: &Counts) -> Result<Vec<Link>, u32> {
 
 fn read_link(rest: &mut &[u8], nodes: usize, before: Option<&Link>) -> Result<Link, u32> {
     let map = take(rest, 1).ok_or(7u32)?[0];
-    if map > 7 || (before.is_none() && map != 7) {
+    if map > 15 || (before.is_none() && map % 8 != 7) {
         return Err(8);
     }
     let first = match map & 1 {
@@ -90,6 +90,9 @@ fn read_link(rest: &mut &[u8], nodes: usize, before: Option<&Link>) -> Result<Li
         _ => take(rest, 4).map(four),
     };
     let (first, second, weight) = (first.ok_or(9u32)?, second.ok_or(9u32)?, weight.ok_or(9u32)?);
+    if map & 8 != 0 {
+        take(rest, 2).ok_or(9u32)?;
+    }
     if first >= nodes || second >= nodes || first == second {
         return Err(10);
     }

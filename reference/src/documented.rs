@@ -1,14 +1,15 @@
-//! Document 01's networks, starred or not, the limits of documents 01 and 02, and networks for request F-3. The lines of each stand
-//! in the documents or were reckoned by hand from their words.
+//! Document 01's networks, starred or not, the limits of documents 01 and 02, networks for request F-3 and sheets for request F-9. The
+//! lines of each stand in the documents or were reckoned by hand from their words.
 
 use crate::network::{Link, Network, Tree};
-use crate::sheet;
+use crate::sheet::{self, Contents};
 
 pub struct Documented {
     pub name: String,
     pub sheet: Vec<u8>,
-    /// What the report program prints.
+    /// What the report program prints, and the cable crew's.
     pub lines: String,
+    pub trunk_lines: String,
 }
 
 /// The bytes of case A, as document 01 gives them.
@@ -29,13 +30,22 @@ pub fn network(nodes: usize, links: &[(usize, usize, u64)], trees: &[(u64, &[usi
     Network { nodes, links: links.iter().map(link).collect(), trees: trees.iter().map(tree).collect() }
 }
 
+/// A sheet without trunk numbers: the crew's program prints 0 for each link, or the same refusal.
 fn documented(name: &str, sheet: Vec<u8>, lines: &str) -> Documented {
-    Documented { name: name.to_string(), sheet, lines: lines.to_string() }
+    let links = sheet[2..4].iter().rev().fold(0, |links, &byte| 256 * links + usize::from(byte));
+    let trunk_lines = match lines.starts_with("refused") {
+        true => lines.to_string(),
+        false => (0..links).map(|link| format!("{link} 0\n")).collect(),
+    };
+    Documented { name: name.to_string(), sheet, lines: lines.to_string(), trunk_lines }
 }
 
 /// All of them, case A first.
 pub fn all() -> Vec<Documented> {
-    [of_document_01(), shares_of_two_trees(), runs_of_trees(), wide_runs()].into_iter().flatten().collect()
+    [of_document_01(), shares_of_two_trees(), runs_of_trees(), wide_runs(), with_trunks()]
+        .into_iter()
+        .flatten()
+        .collect()
 }
 
 /// Document 01's networks and limits, with those of request F-2. By either rule for the trees that count, they have the same lines.
@@ -235,6 +245,112 @@ fn wide_runs() -> Vec<Documented> {
     ]
 }
 
+/// Sheets for request F-9, in each of which bit 3 of a map byte is set or a map byte is 16.
+pub fn with_trunks() -> Vec<Documented> {
+    [trunk_numbers(), trunks_cut_off(), other_refusals(), longest()].into_iter().flatten().collect()
+}
+
+/// The sheet of these records, with what both programs print.
+fn trunked(name: &str, records: &[&[u8]], lines: &str, trunk_lines: &str) -> Documented {
+    let (lines, trunk_lines) = (lines.to_string(), trunk_lines.to_string());
+    Documented { name: name.to_string(), sheet: records.concat(), lines, trunk_lines }
+}
+
+/// The sheet of these records, which both programs refuse.
+fn refused(name: &str, records: &[&[u8]], number: u32) -> Documented {
+    let line = format!("refused {number}\n");
+    trunked(name, records, &line, &line)
+}
+
+const TRIANGLE_HEADER: &[u8] = &[0x03, 0x00, 0x03, 0x00, 0x01];
+/// Network A's link 0 with trunk number 263, and its link 1 without one.
+const A_0: &[u8] = &[0x0F, 0x00, 0x00, 0x01, 0x00, 0x03, 0x00, 0x00, 0x00, 0x07, 0x01];
+const A_1: &[u8] = &[0x07, 0x01, 0x00, 0x02, 0x00, 0x02, 0x00, 0x00, 0x00];
+const A_2: &[u8] = &[0x05, 0x00, 0x00, 0x04, 0x00, 0x00, 0x00];
+const A_TREE: &[u8] = &[0x02, 0x00, 0x00, 0x00, 0x05];
+/// Network E's link 0, its link 1 with trunk number 5, and its link 2 with and without that number.
+const E_0: &[u8] = &[0x07, 0x00, 0x00, 0x01, 0x00, 0x01, 0x00, 0x00, 0x00];
+const E_1: &[u8] = &[0x0B, 0x01, 0x00, 0x02, 0x00, 0x05, 0x00];
+const E_2: &[u8] = &[0x05, 0x00, 0x00, 0x0A, 0x00, 0x00, 0x00];
+const E_2_AGAIN: &[u8] = &[0x0D, 0x00, 0x00, 0x0A, 0x00, 0x00, 0x00, 0x05, 0x00];
+const E_TREE: &[u8] = &[0x01, 0x00, 0x00, 0x00, 0x03];
+
+fn trunk_numbers() -> Vec<Documented> {
+    let a = "answer 2 5 5 0 0 - 1\nside 1\n";
+    let e = "answer 2 2 2 0 0 1 1\nside 1\n";
+    // parallel links of weight 4, and a tree of link 0 with share 4: 3 x 4 is the weight of three links
+    let three: &[&[u8]] = &[
+        &[0x02, 0x00, 0x03, 0x00, 0x01],
+        &[0x0F, 0x00, 0x00, 0x01, 0x00, 0x04, 0x00, 0x00, 0x00, 0x01, 0x00],
+        &[0x08, 0xFF, 0xFF],
+        &[0x00],
+        &[0x04, 0x00, 0x00, 0x00, 0x01],
+    ];
+    let four: &[&[u8]] = &[
+        &[0x02, 0x00, 0x04, 0x00, 0x01],
+        &[0x0F, 0x00, 0x00, 0x01, 0x00, 0x04, 0x00, 0x00, 0x00, 0x00, 0x00],
+        &[0x08, 0x00, 0x01],
+        &[0x08, 0x00, 0x01],
+        &[0x08, 0x00, 0x00],
+        &[0x04, 0x00, 0x00, 0x00, 0x01],
+    ];
+    let three_lines = "answer 2 12 12 0 0 - 1\nside 1\n";
+    let four_lines = "answer 1 16 12 0 0 - 1\nside 1\n";
+    vec![
+        trunked("A, trunk 263", &[TRIANGLE_HEADER, A_0, A_1, A_2, A_TREE], a, "0 263\n1 263\n2 263\n"),
+        trunked("E, trunk 5 from link 1 on", &[TRIANGLE_HEADER, E_0, E_1, E_2, E_TREE], e, "0 0\n1 5\n2 5\n"),
+        trunked("E, trunk 5 twice", &[TRIANGLE_HEADER, E_0, E_1, E_2_AGAIN, E_TREE], e, "0 0\n1 5\n2 5\n"),
+        trunked("trunks 1 and 65,535", three, three_lines, "0 1\n1 65535\n2 65535\n"),
+        trunked("trunks 0, 256, 256 and 0", four, four_lines, "0 0\n1 256\n2 256\n3 0\n"),
+    ]
+}
+
+/// Sheets that end inside a trunk number or before it. A link with equal ends is refused with 10 only if its trunk number is whole.
+fn trunks_cut_off() -> Vec<Documented> {
+    let equal_ends: &[u8] = &[0x0F, 0x01, 0x00, 0x01, 0x00, 0x03, 0x00, 0x00, 0x00, 0x07, 0x01];
+    let cut = |record: &'static [u8], bytes: usize| &record[..record.len() - bytes];
+    vec![
+        refused("trunk of link 0 without a byte", &[TRIANGLE_HEADER, cut(A_0, 2)], 9),
+        refused("trunk of link 0 with one byte", &[TRIANGLE_HEADER, cut(A_0, 1)], 9),
+        refused("trunk of link 1 without a byte", &[TRIANGLE_HEADER, E_0, cut(E_1, 2)], 9),
+        refused("trunk of link 1 with one byte", &[TRIANGLE_HEADER, E_0, cut(E_1, 1)], 9),
+        refused("trunk of the last link without a byte", &[TRIANGLE_HEADER, E_0, E_1, cut(E_2_AGAIN, 2)], 9),
+        refused("trunk of the last link with one byte", &[TRIANGLE_HEADER, E_0, E_1, cut(E_2_AGAIN, 1)], 9),
+        refused("equal ends and a trunk number of one byte", &[TRIANGLE_HEADER, &equal_ends[..10]], 9),
+        refused("equal ends and a whole trunk number", &[TRIANGLE_HEADER, equal_ends], 10),
+    ]
+}
+
+/// Link 0 with the map bytes 8 to 14, link 1 with map byte 16, no link behind a whole trunk number, and a byte behind the last tree.
+fn other_refusals() -> Vec<Documented> {
+    let link_0 = |map: u8| {
+        let name = format!("link 0 with map byte {map}");
+        refused(&name, &[TRIANGLE_HEADER, &[map], &A_0[1..], A_1, A_2, A_TREE], 8)
+    };
+    let others = [
+        refused("link 1 with map byte 16", &[TRIANGLE_HEADER, E_0, &[0x10], E_2, E_TREE], 8),
+        refused("no link behind a whole trunk number", &[TRIANGLE_HEADER, A_0], 7),
+        refused("A, trunk 263, and one byte more", &[TRIANGLE_HEADER, A_0, A_1, A_2, A_TREE, &[0x00]], 16),
+    ];
+    (8..15).map(link_0).chain(others).collect()
+}
+
+/// A longest sheet, and one byte more: 2,048 parallel links of weight 32 whose trunk numbers fall from 65,535, and 32 trees of link 0
+/// with share 1 each.
+fn longest() -> Vec<Documented> {
+    let tree: (u64, &[usize]) = (1, &[0]);
+    let network = network(2, &[(0, 1, 32); sheet::MOST_LINKS], &[tree; sheet::MOST_TREES]);
+    let trunks = (0..sheet::MOST_LINKS).map(|link| 65_535 - link as u16).collect();
+    let sheet = sheet::write_with_maps(&Contents { network, trunks }, &[sheet::ALL_FIELDS; sheet::MOST_LINKS]);
+    // 2,048 x 32, and 3 x 32
+    let lines = "answer 1 65536 96 0 0 - 1\nside 1\n";
+    let trunk_lines: String = (0..sheet::MOST_LINKS).map(|link| format!("{link} {}\n", 65_535 - link)).collect();
+    vec![
+        trunked("a longest sheet", &[&sheet], lines, &trunk_lines),
+        refused("a longest sheet and one byte more", &[&sheet, &[0x00]], 16),
+    ]
+}
+
 #[cfg(test)]
 mod tests {
     use super::*;
@@ -244,6 +360,8 @@ mod tests {
     fn the_reference_answers_as_documented() {
         for case in all() {
             assert_eq!(report::lines(&report::outcome(&case.sheet)), case.lines, "{}", case.name);
+            let reading = sheet::read_contents(&case.sheet);
+            assert_eq!(report::trunk_lines(&reading), case.trunk_lines, "{}", case.name);
         }
     }
 
@@ -265,5 +383,22 @@ mod tests {
     fn the_writer_gives_case_a() {
         let links = [(0, 1, 3), (1, 2, 2), (0, 2, 4)];
         assert_eq!(sheet::write(&network(3, &links, &[(2, &[0, 2])])), CASE_A);
+    }
+
+    #[test]
+    fn the_writer_gives_the_shortest_sheets_of_trunk_numbers() {
+        let written = |links: &[(usize, usize, u64)], tree, trunks: &[u16]| {
+            sheet::write_contents(&Contents { network: network(3, links, &[tree]), trunks: trunks.to_vec() })
+        };
+        let a = written(&[(0, 1, 3), (1, 2, 2), (0, 2, 4)], (2, &[0, 2]), &[263; 3]);
+        assert_eq!(a, [TRIANGLE_HEADER, A_0, A_1, A_2, A_TREE].concat());
+        let e = written(&[(0, 1, 1), (1, 2, 1), (0, 2, 10)], (1, &[0, 1]), &[0, 5, 5]);
+        assert_eq!(e, [TRIANGLE_HEADER, E_0, E_1, E_2, E_TREE].concat());
+    }
+
+    #[test]
+    fn a_longest_sheet_has_30_853_bytes() {
+        assert_eq!(longest()[0].sheet.len(), 30_853);
+        assert_eq!(sheet::LONGEST_SHEET, 30_853);
     }
 }

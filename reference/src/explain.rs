@@ -11,7 +11,7 @@ use crate::sheet::{Place, Refusal, LEAST_NODES, MOST_LINKS, MOST_NODES, MOST_TRE
 /// How many nodes of a side a sentence names.
 const MOST_NAMED_NODES: usize = 12;
 
-/// Document 01's words for the refusal numbers, from 1 on, with those of request F-2 for 2 and 11.
+/// Document 01's words for the refusal numbers, from 1 on, with those of request F-2 for 2 and 11 and of request F-9 for 8.
 const MEANINGS: [&str; 16] = [
     "the side area has fewer than 32 bytes",
     "the report area has fewer than 24 bytes",
@@ -20,7 +20,7 @@ const MEANINGS: [&str; 16] = [
     "the link count is below the node count less 1, or above 2,048",
     "the tree count is 0 or above 32",
     "no map byte is left for a link",
-    "a map byte exceeds 7, or link 0's map byte is not 7",
+    "a map byte exceeds 15, or link 0's map byte is neither 7 nor 15",
     "the sheet ends before the last byte of a field whose bit stands",
     "an end is not below the node count, or both ends are equal",
     "a weight exceeds 1,000,000, which only units already sold refuse",

@@ -6,11 +6,11 @@ use crate::every_side::path;
 use crate::generate::{self, Feature, Size};
 use crate::network::{Network, Tree};
 use crate::random::Random;
-use crate::sheet::{self, Place, Refusal, MOST_TREES};
+use crate::sheet::{self, Contents, Place, Refusal, MOST_TREES};
 
 /// A sound sheet and where its records start.
 pub struct Base {
-    pub network: Network,
+    pub contents: Contents,
     pub sheet: Vec<u8>,
     maps: Vec<u8>,
     link_starts: Vec<usize>,
@@ -19,23 +19,28 @@ pub struct Base {
 
 impl Base {
     /// The sheet of a sound network whose link records have the given map bytes.
-    pub fn new(network: Network, maps: Vec<u8>) -> Base {
-        let sheet = sheet::write_with_maps(&network, &maps);
+    pub fn new(contents: Contents, maps: Vec<u8>) -> Base {
+        let sheet = sheet::write_with_maps(&contents, &maps);
         let mut start = sheet::HEADER_BYTES;
         let mut starts = |length: usize| {
             start += length;
             start - length
         };
         let link_starts = maps.iter().map(|&map| starts(1 + sheet::field_bytes(map))).collect();
-        let tree_bytes = sheet::tree_bytes(network.links.len());
-        let tree_starts = network.trees.iter().map(|_| starts(tree_bytes)).collect();
-        Base { network, sheet, maps, link_starts, tree_starts }
+        let Network { links, trees, .. } = &contents.network;
+        let tree_bytes = sheet::tree_bytes(links.len());
+        let tree_starts = trees.iter().map(|_| starts(tree_bytes)).collect();
+        Base { contents, sheet, maps, link_starts, tree_starts }
     }
 
     /// The sheet of a random network of that size with all fields written.
     pub fn with_all_fields(random: &mut Random, size: Size) -> Base {
         let network = generate::network(random, size, Feature::Any);
-        Base::new(network, vec![sheet::ALL_FIELDS; size.links])
+        Base::new(generate::with_trunks(random, network), vec![sheet::ALL_FIELDS; size.links])
+    }
+
+    fn network(&self) -> &Network {
+        &self.contents.network
     }
 
     /// Where the records start, the end of the sheet included.
@@ -49,7 +54,7 @@ impl Base {
     }
 }
 
-/// Links whose map bytes are 7, 0, 1, 2, 3, 4, 5, 6 and the same again, in the shortest sheet.
+/// Links whose map bytes are 7, 0, 1, 2, 3, 4, 5, 6 and the same again, in the shortest sheet without trunk numbers.
 const LINKS: [(usize, usize, u64); 16] = [
     (0, 1, 3),
     (0, 1, 3),
@@ -68,22 +73,35 @@ const LINKS: [(usize, usize, u64); 16] = [
     (1, 0, 7),
     (1, 3, 4),
 ];
+/// Their trunk numbers, with which the map bytes of the second half have bit 3.
+const TRUNKS: [u16; 16] = [0, 0, 0, 0, 0, 0, 0, 0, 7, 0, 65_535, 1, 256, 255, 263, 2];
 
-/// Small sheets with every map byte, with link maps of one byte and of two, with and without stray bits.
+/// Small sheets with every map byte, with link maps of one byte and of two, with and without stray bits, the last ones with trunk
+/// numbers.
 pub fn bases() -> Vec<Base> {
-    let shortest = |network: Network| {
-        let maps = sheet::shortest_maps(&network.links);
-        Base::new(network, maps)
+    let shortest = |network: Network, trunks: &[u16]| {
+        let contents = Contents { network, trunks: trunks.to_vec() };
+        let maps = sheet::shortest_maps(&contents);
+        Base::new(contents, maps)
     };
+    let written = |network: Network, trunk: u16, map: u8| {
+        let links = network.links.len();
+        Base::new(Contents { network, trunks: vec![trunk; links] }, vec![map; links])
+    };
+    let one_link = network(2, &LINKS[..1], &[(1, &[0])]);
+    let five_links = network(4, &LINKS[..5], &[(1, &[0, 2, 3]), (1, &[2, 3, 4])]);
     let one_byte = network(4, &LINKS[..8], &[(1, &[0, 2, 3]), (2, &[1, 6, 7]), (0, &[2, 5, 7])]);
-    let all_fields = vec![sheet::ALL_FIELDS; one_byte.links.len()];
+    let eleven_links = network(4, &LINKS[..11], &[(1, &[0, 2, 3]), (2, &[6, 8, 10]), (3, &[2, 3, 9])]);
+    let two_bytes = network(4, &LINKS, &[(1, &[0, 11, 15]), (2, &[7, 8, 14]), (1, &[11, 12, 15])]);
     vec![
-        shortest(network(2, &LINKS[..1], &[(1, &[0])])),
-        shortest(network(4, &LINKS[..5], &[(1, &[0, 2, 3]), (1, &[2, 3, 4])])),
-        shortest(one_byte.clone()),
-        Base::new(one_byte, all_fields),
-        shortest(network(4, &LINKS[..11], &[(1, &[0, 2, 3]), (2, &[6, 8, 10]), (3, &[2, 3, 9])])),
-        shortest(network(4, &LINKS, &[(1, &[0, 11, 15]), (2, &[7, 8, 14]), (1, &[11, 12, 15])])),
+        shortest(one_link.clone(), &[0]),
+        shortest(five_links.clone(), &[0; 5]),
+        shortest(one_byte.clone(), &[0; 8]),
+        written(one_byte, 0, sheet::LINK_FIELDS),
+        shortest(eleven_links, &[0; 11]),
+        shortest(one_link, &[263]),
+        written(five_links, 263, sheet::ALL_FIELDS),
+        shortest(two_bytes, &TRUNKS),
     ]
 }
 
@@ -159,11 +177,11 @@ fn edits_clash(one: &Edit, other: &Edit) -> bool {
 /// Every single fault of a base.
 pub fn singles(base: &Base) -> Vec<Fault> {
     let mut faults = header_faults(base);
-    for link in 0..base.network.links.len() {
+    for link in 0..base.network().links.len() {
         faults.extend(link_cuts(base, link));
         faults.extend(link_faults(base, link).concat());
     }
-    for tree in 0..base.network.trees.len() {
+    for tree in 0..base.network().trees.len() {
         faults.extend(tree_cuts(base, tree));
         faults.extend(tree_faults(base, tree).concat());
     }
@@ -181,10 +199,10 @@ pub const LARGE_SIZE: Size = Size::new(8, 2041, MOST_TREES);
 pub fn of_every_record(random: &mut Random, base: &Base) -> Vec<Fault> {
     let mut faults = link_cuts(base, 0);
     faults.extend(link_faults(base, 0).concat());
-    for link in 1..base.network.links.len() {
+    for link in 1..base.network().links.len() {
         faults.extend(one_of_each(random, &link_faults(base, link)));
     }
-    for tree in 0..base.network.trees.len() {
+    for tree in 0..base.network().trees.len() {
         let [stray_bits, other_counts, swaps] = tree_faults(base, tree);
         faults.extend(stray_bits);
         faults.extend(one_of_each(random, &[other_counts, swaps]));
@@ -204,8 +222,8 @@ fn header_faults(base: &Base) -> Vec<Fault> {
     let count = |number, at, count: usize| header(number, Edit::Set(at, (count as u16).to_le_bytes().to_vec()));
     let mut faults: Vec<Fault> = (0..sheet::HEADER_BYTES).map(|end| header(3, Edit::Cut(end))).collect();
     faults.extend([0, 1, 257, 512, 65_535].map(|nodes| count(4, NODES_AT, nodes)));
-    faults.extend([base.network.nodes - 2, 2049, 65_535].map(|links| count(5, LINKS_AT, links)));
-    faults.push(count(5, NODES_AT, base.network.links.len() + 2));
+    faults.extend([base.network().nodes - 2, 2049, 65_535].map(|links| count(5, LINKS_AT, links)));
+    faults.push(count(5, NODES_AT, base.network().links.len() + 2));
     faults.extend([0, 33, 255].map(|trees| header(6, Edit::Set(TREES_AT, vec![trees]))));
     faults
 }
@@ -220,7 +238,7 @@ fn link_cuts(base: &Base, link: usize) -> Vec<Fault> {
 
 /// The faults of a link record by kind: the map byte, ends that are too large, equal ends.
 fn link_faults(base: &Base, link: usize) -> [Vec<Fault>; 3] {
-    let nodes = base.network.nodes;
+    let nodes = base.network().nodes;
     [
         map_byte_faults(base, link),
         end_faults(base, link, |end, _| vec![nodes, nodes + 1, 256 + end, 65_535]),
@@ -229,9 +247,9 @@ fn link_faults(base: &Base, link: usize) -> [Vec<Fault>; 3] {
 }
 
 fn map_byte_faults(base: &Base, link: usize) -> Vec<Fault> {
-    let mut wrong = vec![8, 9, 15, 16, 32, 64, 128, 135, 255];
+    let mut wrong = vec![16, 17, 24, 31, 32, 64, 128, 135, 143, 255];
     if link == 0 {
-        wrong.extend(0..sheet::ALL_FIELDS);
+        wrong.extend((0..sheet::ALL_FIELDS).filter(|&map| map != sheet::LINK_FIELDS));
     }
     let set = |map| fault(Place::Link(link), 8, Edit::Set(base.link_starts[link], vec![map]));
     wrong.into_iter().map(set).collect()
@@ -240,7 +258,8 @@ fn map_byte_faults(base: &Base, link: usize) -> Vec<Fault> {
 /// Each end that stands in the record set to wrong numbers, which follow from it and from the other end. The other end stands in
 /// the record too, or is the one of the link before.
 fn end_faults(base: &Base, link: usize, wrong: impl Fn(usize, usize) -> Vec<usize>) -> Vec<Fault> {
-    let ends = [base.network.links[link].first, base.network.links[link].second];
+    let link_ends = base.network().links[link];
+    let ends = [link_ends.first, link_ends.second];
     let map = base.maps[link];
     let mut faults = Vec::new();
     for (end, bit) in [sheet::FIRST_END_BIT, sheet::SECOND_END_BIT].into_iter().enumerate() {
@@ -256,23 +275,25 @@ fn end_faults(base: &Base, link: usize, wrong: impl Fn(usize, usize) -> Vec<usiz
     faults
 }
 
-/// Where a link's weight stands, if its record has it.
-fn weight_start(base: &Base, link: usize) -> Option<usize> {
-    let map = base.maps[link];
-    let before = sheet::field_bytes(map & (sheet::WEIGHT_BIT - 1));
-    (map & sheet::WEIGHT_BIT != 0).then_some(base.link_starts[link] + 1 + before)
+/// Where the field of that bit stands in each link record that has it.
+fn field_starts(base: &Base, bit: u8) -> Vec<usize> {
+    let start = |(&start, &map): (&usize, &u8)| {
+        let before = sheet::field_bytes(map & (bit - 1));
+        (map & bit != 0).then_some(start + 1 + before)
+    };
+    base.link_starts.iter().zip(&base.maps).filter_map(start).collect()
 }
 
 /// The sheet cut before and inside a tree record.
 fn tree_cuts(base: &Base, tree: usize) -> Vec<Fault> {
     let start = base.tree_starts[tree];
-    let end = start + sheet::tree_bytes(base.network.links.len());
+    let end = start + sheet::tree_bytes(base.network().links.len());
     (start..end).map(|at| fault(Place::Tree(tree), 12, Edit::Cut(at))).collect()
 }
 
 /// The faults of a link map by kind: a stray bit, a member taken out or another link put in, both.
 fn tree_faults(base: &Base, tree: usize) -> [Vec<Fault>; 3] {
-    let links = base.network.links.len();
+    let links = base.network().links.len();
     let flip = |number, bit| fault(Place::Tree(tree), number, base.flip(tree, bit));
     let stray_bits = (links..sheet::map_bytes(links) * 8).map(|bit| flip(13, bit));
     let other_counts = (0..links).map(|bit| flip(14, bit));
@@ -281,7 +302,7 @@ fn tree_faults(base: &Base, tree: usize) -> [Vec<Fault>; 3] {
 
 /// A member taken out and another link put in that closes a cycle: its ends are joined without the member.
 fn swap_faults(base: &Base, tree: usize) -> Vec<Fault> {
-    let network = &base.network;
+    let network = base.network();
     let listed: &Tree = &network.trees[tree];
     let mut faults = Vec::new();
     for link in (0..network.links.len()).filter(|link| !listed.members.contains(link)) {
@@ -295,22 +316,28 @@ fn swap_faults(base: &Base, tree: usize) -> Vec<Fault> {
     faults
 }
 
-/// Sheets that differ from the base and have no fault: each weight at its limits and around that of units already sold, each share
-/// at its limits.
+/// Sheets that differ from the base and have no fault: each weight at its limits and around that of units already sold, each trunk
+/// number and each share at its limits.
 pub fn harmless(base: &Base) -> Vec<Vec<u8>> {
     let mut sheets = Vec::new();
-    let mut set = |at: usize, number: u32| {
-        let edit = fault(Place::End, 0, Edit::Set(at, number.to_le_bytes().to_vec()));
+    let mut set = |at: usize, number: &[u8]| {
+        let edit = fault(Place::End, 0, Edit::Set(at, number.to_vec()));
         sheets.push(damaged(base, &[&edit]));
     };
-    for at in (0..base.network.links.len()).filter_map(|link| weight_start(base, link)) {
+    for at in field_starts(base, sheet::WEIGHT_BIT) {
         for weight in [0, 1_000_000, 1_000_001, 1 << 24, u32::MAX] {
-            set(at, weight);
+            set(at, &weight.to_le_bytes());
+        }
+    }
+    for at in field_starts(base, sheet::TRUNK_BIT) {
+        for trunk in [0, 1, 255, 256, u16::MAX] {
+            set(at, &trunk.to_le_bytes());
         }
     }
     for &at in &base.tree_starts {
-        set(at, u32::MAX);
-        set(at, 0);
+        for share in [u32::MAX, 0] {
+            set(at, &share.to_le_bytes());
+        }
     }
     sheets
 }
@@ -323,11 +350,11 @@ mod tests {
     #[test]
     fn bases_are_sound_and_have_every_map_byte() {
         for base in bases() {
-            assert_eq!(sheet::read(&base.sheet), Ok(base.network.clone()));
+            assert_eq!(sheet::read_contents(&base.sheet), Ok(base.contents.clone()));
             assert!(harmless(&base).iter().all(|sheet| sheet::read(sheet).is_ok()));
         }
         let maps: BTreeSet<u8> = bases().iter().flat_map(|base| base.maps.clone()).collect();
-        assert_eq!(maps, (0..=7).collect());
+        assert_eq!(maps, (0..=15).collect());
     }
 
     #[test]
@@ -346,7 +373,7 @@ mod tests {
     fn every_record_of_a_large_sheet_has_a_fault_of_each_kind() {
         let mut random = Random::new(1);
         let base = Base::with_all_fields(&mut random, LARGE_SIZE);
-        assert_eq!(sheet::read(&base.sheet), Ok(base.network.clone()));
+        assert_eq!(sheet::read_contents(&base.sheet), Ok(base.contents.clone()));
         let mut seen = BTreeSet::new();
         for fault in of_every_record(&mut random, &base) {
             let Refusal { place, number } = fault.refusal;
@@ -374,7 +401,7 @@ mod tests {
     #[test]
     fn the_first_of_two_faults_is_refused() {
         let mut seen = BTreeSet::new();
-        for base in &bases()[..5] {
+        for base in &bases()[..7] {
             let faults = singles(base);
             for (place, one) in faults.iter().enumerate() {
                 for other in &faults[place + 1..] {

@@ -1,12 +1,15 @@
 //! Sound random networks of a given size, each with a feature that makes its answer hard to reckon.
 
 mod runs;
+mod trunks;
+
+pub use trunks::{contents, with_trunks};
 
 use crate::cuts;
 use crate::network::{joining, Link, Network, Tree};
 use crate::random::Random;
 use crate::shapes::SHAPES;
-use crate::sheet::{self, BASE, MOST_LINKS, MOST_TREES, MOST_WEIGHT};
+use crate::sheet::{self, Contents, ALL_FIELDS, BASE, LINK_FIELDS, MOST_LINKS, MOST_TREES, MOST_WEIGHT};
 
 #[derive(Clone, Copy, Debug)]
 pub struct Size {
@@ -136,12 +139,13 @@ pub fn network(random: &mut Random, size: Size, feature: Feature) -> Network {
     network
 }
 
-/// Map bytes with some fields, or all, written though they equal those of the link before.
-pub fn longer_maps(random: &mut Random, links: &[Link]) -> Vec<u8> {
-    let mut maps = sheet::shortest_maps(links);
+/// Map bytes with some fields, or all, written though they equal those of the link before; in half of the cases not the trunk numbers.
+pub fn longer_maps(random: &mut Random, contents: &Contents) -> Vec<u8> {
+    let mut maps = sheet::shortest_maps(contents);
+    let fields = random.pick(&[LINK_FIELDS, ALL_FIELDS]);
     let all = random.once_in(4);
     for map in &mut maps {
-        *map |= if all { sheet::ALL_FIELDS } else { random.byte() & sheet::ALL_FIELDS };
+        *map |= if all { fields } else { random.byte() & fields };
     }
     maps
 }
@@ -428,10 +432,12 @@ mod tests {
             for _ in 0..40 {
                 let network = small(&mut random, feature);
                 assert_eq!(sheet::read(&sheet::write(&network)), Ok(network.clone()));
-                let longer = sheet::write_with_maps(&network, &longer_maps(&mut random, &network.links));
-                assert_eq!(sheet::read(&longer), Ok(network.clone()));
-                let parsed = text::parse(text::write(&network).as_bytes());
-                assert_eq!(parsed.map(|parsed| parsed.network), Ok(network.clone()));
+                let contents = contents(&mut random, network.clone());
+                assert_eq!(sheet::read_contents(&sheet::write_contents(&contents)), Ok(contents.clone()));
+                let longer = sheet::write_with_maps(&contents, &longer_maps(&mut random, &contents));
+                assert_eq!(sheet::read_contents(&longer), Ok(contents.clone()));
+                let parsed = text::parse(text::write(&contents).as_bytes());
+                assert_eq!(parsed.map(|parsed| parsed.contents), Ok(contents));
                 let answer = cuts::answer(&network);
                 assert_eq!(answer, every_side::answer(&network));
                 assert_eq!(every_side::check_demand(&network, &answer), Ok(()));

@@ -16,3 +16,4 @@ pub mod shapes;
 pub mod sheet;
 pub mod sold;
 pub mod text;
+pub mod trunks;

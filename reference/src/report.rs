@@ -1,7 +1,7 @@
-//! The outcome of a sheet, as the bytes of both areas and as the report program's lines.
+//! The outcome of a sheet, as the bytes of both areas, as the report program's lines and as those of the cable crew's program.
 
 use crate::cuts::{self, Answer};
-use crate::sheet::{self, Refusal};
+use crate::sheet::{self, Reading, Refusal};
 
 pub const SIDE_BYTES: usize = 32;
 pub const REPORT_BYTES: usize = 24;
@@ -11,7 +11,12 @@ pub type Outcome = Result<Answer, Refusal>;
 
 /// The answer of a sheet, or the first of refusals 3 to 16.
 pub fn outcome(sheet: &[u8]) -> Outcome {
-    sheet::read(sheet).map(|network| cuts::answer(&network))
+    outcome_of(&sheet::read_contents(sheet))
+}
+
+/// The same of a sheet that was read.
+pub fn outcome_of(reading: &Reading) -> Outcome {
+    reading.as_ref().map(|contents| cuts::answer(&contents.network)).map_err(|refusal| *refusal)
 }
 
 /// The first 32 bytes of the side area.
@@ -42,7 +47,7 @@ pub fn report_area(answer: &Answer) -> [u8; REPORT_BYTES] {
 pub fn lines(outcome: &Outcome) -> String {
     let answer = match outcome {
         Ok(answer) => answer,
-        Err(refusal) => return format!("refused {}\n", refusal.number),
+        Err(refusal) => return refused(refusal),
     };
     let candidate = answer.candidate;
     let second = candidate.second.map_or("-".to_string(), |second| second.to_string());
@@ -61,6 +66,19 @@ pub fn lines(outcome: &Outcome) -> String {
     }
     lines.push('\n');
     lines
+}
+
+/// What the cable crew's program prints: each link's number and trunk number.
+pub fn trunk_lines(reading: &Reading) -> String {
+    match reading {
+        Ok(contents) => contents.trunks.iter().enumerate().map(|(link, trunk)| format!("{link} {trunk}\n")).collect(),
+        Err(refusal) => refused(refusal),
+    }
+}
+
+/// What both programs print of a refused sheet.
+fn refused(refusal: &Refusal) -> String {
+    format!("refused {}\n", refusal.number)
 }
 
 #[cfg(test)]

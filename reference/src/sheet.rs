@@ -1,4 +1,4 @@
-//! The link sheet: from bytes to a network or a refusal, and from a network to its shortest sheet.
+//! The link sheet: from bytes to a network with its trunk numbers or to a refusal, and from these to their shortest sheet.
 
 use crate::network::{joining, Link, Network, Tree};
 
@@ -8,28 +8,54 @@ pub const MOST_NODES: usize = 256;
 pub const MOST_LINKS: usize = 2048;
 pub const MOST_TREES: usize = 32;
 pub const MOST_WEIGHT: u64 = CURRENT.most_weight;
-pub const LONGEST_SHEET: usize = 26_757;
+pub const LONGEST_SHEET: usize = 30_853;
 
 /// What the formats of link sheets differ in.
 pub struct Format {
     pub most_weight: u64,
+    /// The map byte of a link record with all fields, the greatest there is.
+    pub all_fields: u8,
 }
 
 /// Document 01's format, of units already sold.
-pub const BASE: Format = Format { most_weight: 1_000_000 };
-/// The format in force: every weight of four bytes is allowed.
-pub const CURRENT: Format = Format { most_weight: u32::MAX as u64 };
+pub const BASE: Format = Format { most_weight: 1_000_000, all_fields: LINK_FIELDS };
+/// The format before trunk numbers: every weight of four bytes is allowed.
+pub const WIDE: Format = Format { most_weight: u32::MAX as u64, all_fields: LINK_FIELDS };
+/// The format in force: a link record may have a trunk number.
+pub const CURRENT: Format = Format { most_weight: WIDE.most_weight, all_fields: ALL_FIELDS };
 
 /// The bits of a link record's map byte.
 pub const FIRST_END_BIT: u8 = 1;
 pub const SECOND_END_BIT: u8 = 2;
 pub const WEIGHT_BIT: u8 = 4;
-/// The map byte of a link record with all three fields; link 0 has it.
-pub const ALL_FIELDS: u8 = FIRST_END_BIT | SECOND_END_BIT | WEIGHT_BIT;
+pub const TRUNK_BIT: u8 = 8;
+/// The bits of the three fields that make a link; link 0 has them all.
+pub const LINK_FIELDS: u8 = FIRST_END_BIT | SECOND_END_BIT | WEIGHT_BIT;
+/// The map byte of a link record with all four fields.
+pub const ALL_FIELDS: u8 = LINK_FIELDS | TRUNK_BIT;
 
 const END_BYTES: usize = 2;
 const WEIGHT_BYTES: usize = 4;
+pub const TRUNK_BYTES: usize = 2;
 pub const SHARE_BYTES: usize = 4;
+
+/// What a sheet holds: a network, and the trunk number of each of its links.
+#[derive(Clone, Debug, PartialEq, Eq)]
+pub struct Contents {
+    pub network: Network,
+    pub trunks: Vec<u16>,
+}
+
+impl Contents {
+    /// A network whose links all have trunk number 0.
+    pub fn without_trunks(network: Network) -> Contents {
+        let trunks = vec![0; network.links.len()];
+        Contents { network, trunks }
+    }
+}
+
+/// What a sheet reads as.
+pub type Reading = Result<Contents, Refusal>;
 
 /// The record at which a sheet is refused, in the order in which records are checked.
 #[derive(Clone, Copy, Debug, PartialEq, Eq, PartialOrd, Ord)]
@@ -65,7 +91,9 @@ pub fn tree_bytes(links: usize) -> usize {
 /// How many bytes the fields behind a link record's map byte have.
 pub fn field_bytes(map: u8) -> usize {
     let ends = usize::from(map & FIRST_END_BIT != 0) + usize::from(map & SECOND_END_BIT != 0);
-    ends * END_BYTES + usize::from(map & WEIGHT_BIT != 0) * WEIGHT_BYTES
+    let weight = usize::from(map & WEIGHT_BIT != 0);
+    let trunk = usize::from(map & TRUNK_BIT != 0);
+    ends * END_BYTES + weight * WEIGHT_BYTES + trunk * TRUNK_BYTES
 }
 
 /// The bytes of a sheet that are not read yet.
@@ -88,19 +116,26 @@ fn number(bytes: &[u8]) -> u64 {
     bytes.iter().rev().fold(0, |value, &byte| value * 256 + u64::from(byte))
 }
 
-/// The network of a sheet in the format in force, or the first of refusals 3 to 16.
+/// What the panel reads: the network of a sheet in the format in force, or the first of refusals 3 to 16.
 pub fn read(sheet: &[u8]) -> Result<Network, Refusal> {
+    read_contents(sheet).map(|contents| contents.network)
+}
+
+/// What the cable crew reads too: a sheet in the format in force with its trunk numbers, or the same refusal.
+pub fn read_contents(sheet: &[u8]) -> Reading {
     read_in(&CURRENT, sheet)
 }
 
-/// The network of a sheet in that format, or the first of refusals 3 to 16.
-pub fn read_in(format: &Format, sheet: &[u8]) -> Result<Network, Refusal> {
+/// A sheet in that format, or the first of refusals 3 to 16.
+pub fn read_in(format: &Format, sheet: &[u8]) -> Reading {
     let mut unread = Unread(sheet);
     let (nodes, link_count, tree_count) = read_header(&mut unread)?;
-    let mut links: Vec<Link> = Vec::new();
+    let (mut links, mut trunks) = (Vec::new(), Vec::new());
+    let mut record = BEFORE_LINK_0;
     for place in 0..link_count {
-        let link = read_link(&mut unread, format, nodes, place, links.last().copied())?;
-        links.push(link);
+        record = read_link(&mut unread, format, nodes, place, record)?;
+        links.push(record.link);
+        trunks.push(record.trunk);
     }
     let mut trees = Vec::new();
     for place in 0..tree_count {
@@ -109,7 +144,7 @@ pub fn read_in(format: &Format, sheet: &[u8]) -> Result<Network, Refusal> {
     if !unread.0.is_empty() {
         return refuse(Place::End, 16);
     }
-    Ok(Network { nodes, links, trees })
+    Ok(Contents { network: Network { nodes, links, trees }, trunks })
 }
 
 fn read_header(unread: &mut Unread) -> Result<(usize, usize, usize), Refusal> {
@@ -131,35 +166,40 @@ fn read_header(unread: &mut Unread) -> Result<(usize, usize, usize), Refusal> {
     Ok((nodes, links, trees))
 }
 
-fn read_link(
-    unread: &mut Unread,
-    format: &Format,
-    nodes: usize,
-    at: usize,
-    before: Option<Link>,
-) -> Result<Link, Refusal> {
+/// What a link record says, with what it leaves out taken from the record before.
+#[derive(Clone, Copy)]
+struct Record {
+    link: Link,
+    trunk: u16,
+}
+
+/// Link 0 leaves out nothing but its trunk number.
+const BEFORE_LINK_0: Record = Record { link: Link { first: 0, second: 0, weight: 0 }, trunk: 0 };
+
+fn read_link(unread: &mut Unread, format: &Format, nodes: usize, at: usize, before: Record) -> Result<Record, Refusal> {
     let place = Place::Link(at);
     let Some(&[map]) = unread.take(1) else {
         return refuse(place, 7);
     };
-    if map > ALL_FIELDS || (at == 0 && map != ALL_FIELDS) {
+    if map > format.all_fields || (at == 0 && map & LINK_FIELDS != LINK_FIELDS) {
         return refuse(place, 8);
     }
-    let Some(link) = read_fields(unread, map, before) else {
+    let Some(record) = read_fields(unread, map, before) else {
         return refuse(place, 9);
     };
+    let link = record.link;
     if link.first >= nodes || link.second >= nodes || link.first == link.second {
         return refuse(place, 10);
     }
     if link.weight > format.most_weight {
         return refuse(place, 11);
     }
-    Ok(link)
+    Ok(record)
 }
 
-/// The fields whose bit stands from the sheet, the others from the link before; none if the sheet ends inside them.
-fn read_fields(unread: &mut Unread, map: u8, before: Option<Link>) -> Option<Link> {
-    let mut link = before.unwrap_or(Link { first: 0, second: 0, weight: 0 });
+/// The fields whose bit stands from the sheet, the others from the record before; none if the sheet ends inside them.
+fn read_fields(unread: &mut Unread, map: u8, before: Record) -> Option<Record> {
+    let Record { mut link, mut trunk } = before;
     if map & FIRST_END_BIT != 0 {
         link.first = unread.number(END_BYTES)? as usize;
     }
@@ -169,7 +209,10 @@ fn read_fields(unread: &mut Unread, map: u8, before: Option<Link>) -> Option<Lin
     if map & WEIGHT_BIT != 0 {
         link.weight = unread.number(WEIGHT_BYTES)?;
     }
-    Some(link)
+    if map & TRUNK_BIT != 0 {
+        trunk = unread.number(TRUNK_BYTES)? as u16;
+    }
+    Some(Record { link, trunk })
 }
 
 fn read_tree(unread: &mut Unread, nodes: usize, links: &[Link], at: usize) -> Result<Tree, Refusal> {
@@ -196,47 +239,73 @@ fn join_all(nodes: usize, links: &[Link], members: &[usize]) -> bool {
     joining(nodes, links, members).len() == nodes - 1
 }
 
-/// The shortest sheet of a network: a field equal to the link before it is left out, and link 0 has all. Any network whose
-/// numbers fit the fields can be written, sound or not; higher bytes of a number that does not fit are left out.
+/// The shortest sheet of a network, without trunk numbers: a field equal to the link before it is left out, and link 0 has all. Any
+/// network whose numbers fit the fields can be written, sound or not; higher bytes of a number that does not fit are left out.
 pub fn write(network: &Network) -> Vec<u8> {
-    write_with_maps(network, &shortest_maps(&network.links))
+    write_contents(&Contents::without_trunks(network.clone()))
+}
+
+/// The shortest sheet with trunk numbers: one equal to that of the link before is left out, and for link 0 a 0.
+pub fn write_contents(contents: &Contents) -> Vec<u8> {
+    write_with_maps(contents, &shortest_maps(contents))
 }
 
 /// The map byte of each link with the bits of the fields that differ from the link before.
-pub fn shortest_maps(links: &[Link]) -> Vec<u8> {
-    let mut maps = vec![ALL_FIELDS; links.len()];
-    for (place, pair) in links.windows(2).enumerate() {
-        let differs = |bit: u8, differs: bool| if differs { bit } else { 0 };
-        maps[place + 1] = differs(FIRST_END_BIT, pair[0].first != pair[1].first)
-            | differs(SECOND_END_BIT, pair[0].second != pair[1].second)
-            | differs(WEIGHT_BIT, pair[0].weight != pair[1].weight);
+pub fn shortest_maps(contents: &Contents) -> Vec<u8> {
+    let before = std::iter::once(BEFORE_LINK_0).chain(records(contents));
+    let mut maps: Vec<u8> = before.zip(records(contents)).map(|(before, record)| differing(before, record)).collect();
+    if let Some(map) = maps.first_mut() {
+        *map |= LINK_FIELDS;
     }
     maps
 }
 
+fn records(contents: &Contents) -> impl Iterator<Item = Record> + '_ {
+    contents.network.links.iter().zip(&contents.trunks).map(|(&link, &trunk)| Record { link, trunk })
+}
+
+/// The bits of the fields in which a record differs from the one before.
+fn differing(before: Record, record: Record) -> u8 {
+    let differs = |bit: u8, differs: bool| if differs { bit } else { 0 };
+    differs(FIRST_END_BIT, before.link.first != record.link.first)
+        | differs(SECOND_END_BIT, before.link.second != record.link.second)
+        | differs(WEIGHT_BIT, before.link.weight != record.link.weight)
+        | differs(TRUNK_BIT, before.trunk != record.trunk)
+}
+
 /// The sheet whose link records have the given map bytes.
-pub fn write_with_maps(network: &Network, maps: &[u8]) -> Vec<u8> {
+pub fn write_with_maps(contents: &Contents, maps: &[u8]) -> Vec<u8> {
+    let network = &contents.network;
     let mut sheet = Vec::new();
     put(&mut sheet, network.nodes as u64, 2);
     put(&mut sheet, network.links.len() as u64, 2);
     put(&mut sheet, network.trees.len() as u64, 1);
-    for (link, &map) in network.links.iter().zip(maps) {
-        sheet.push(map);
-        if map & FIRST_END_BIT != 0 {
-            put(&mut sheet, link.first as u64, END_BYTES);
-        }
-        if map & SECOND_END_BIT != 0 {
-            put(&mut sheet, link.second as u64, END_BYTES);
-        }
-        if map & WEIGHT_BIT != 0 {
-            put(&mut sheet, link.weight, WEIGHT_BYTES);
-        }
+    for (record, &map) in records(contents).zip(maps) {
+        put_record(&mut sheet, map, record);
     }
     for tree in &network.trees {
         put(&mut sheet, tree.share, SHARE_BYTES);
         sheet.extend(link_map(network.links.len(), &tree.members));
     }
     sheet
+}
+
+/// A map byte, and the fields whose bit stands.
+fn put_record(sheet: &mut Vec<u8>, map: u8, record: Record) {
+    let Record { link, trunk } = record;
+    sheet.push(map);
+    if map & FIRST_END_BIT != 0 {
+        put(sheet, link.first as u64, END_BYTES);
+    }
+    if map & SECOND_END_BIT != 0 {
+        put(sheet, link.second as u64, END_BYTES);
+    }
+    if map & WEIGHT_BIT != 0 {
+        put(sheet, link.weight, WEIGHT_BYTES);
+    }
+    if map & TRUNK_BIT != 0 {
+        put(sheet, u64::from(trunk), TRUNK_BYTES);
+    }
 }
 
 /// A number as so many bytes, the lowest first.

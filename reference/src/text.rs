@@ -6,7 +6,7 @@ mod line;
 mod tests;
 
 use crate::network::{Link, Network, Tree};
-use crate::sheet::{Place, Refusal, MOST_LINKS, MOST_TREES};
+use crate::sheet::{Contents, Place, Refusal, MOST_LINKS, MOST_TREES};
 use line::Line;
 use std::fmt::Write;
 
@@ -23,12 +23,12 @@ pub struct Fault {
     pub message: String,
 }
 
-/// A network that was read from a text, sound or not, and the line of each record.
+/// What was read from a text, a sound network or not, and the line of each record.
 #[derive(Clone, Debug, PartialEq, Eq)]
 pub struct Parsed {
     /// The first comment that has a line of its own.
     pub title: Option<String>,
-    pub network: Network,
+    pub contents: Contents,
     nodes_line: usize,
     link_lines: Vec<usize>,
     tree_lines: Vec<usize>,
@@ -43,9 +43,10 @@ pub fn parse(file: &[u8]) -> Result<Parsed, Fault> {
         let message = "expected 'nodes' and the node count, found only comments and blank lines".to_string();
         return Err(Fault { line: text.lines().count().max(1), message });
     };
+    let network = Network { nodes: read_nodes(&mut first)?, links: Vec::new(), trees: Vec::new() };
     let mut parsed = Parsed {
         title: text.lines().find_map(title),
-        network: Network { nodes: read_nodes(&mut first)?, links: Vec::new(), trees: Vec::new() },
+        contents: Contents::without_trunks(network),
         nodes_line: first.number(),
         link_lines: Vec::new(),
         tree_lines: Vec::new(),
@@ -107,7 +108,7 @@ impl Parsed {
         if let Some(tree_line) = self.tree_lines.first() {
             return line.fault(&format!("expected all links before the first tree, and line {tree_line} is a tree"));
         }
-        if self.network.links.len() == MOST_LINK_LINES {
+        if self.link_lines.len() == MOST_LINK_LINES {
             return line.fault(&format!("expected at most {MOST_LINK_LINES} links, found one more"));
         }
         let first = line.expect_number("a node number behind 'link'", MOST_IN_TWO_BYTES)? as usize;
@@ -115,28 +116,39 @@ impl Parsed {
         let second = line.expect_number("a node number behind the '-'", MOST_IN_TWO_BYTES)? as usize;
         line.expect_sign(':', "the second node number")?;
         let weight = line.expect_number("a weight behind the ':'", MOST_IN_FOUR_BYTES)?;
-        line.expect_end("the weight")?;
-        self.network.links.push(Link { first, second, weight });
+        let trunk = self.read_trunk(line)?;
+        self.contents.network.links.push(Link { first, second, weight });
+        self.contents.trunks.push(trunk);
         self.link_lines.push(line.number());
         Ok(())
     }
 
+    /// The trunk number at the end of a link's line, or without one that of the link before.
+    fn read_trunk(&self, line: &mut Line) -> Result<u16, Fault> {
+        if !line.word_or_end("trunk", "the weight")? {
+            return Ok(self.contents.trunks.last().copied().unwrap_or(0));
+        }
+        let trunk = line.expect_number("a trunk number behind 'trunk'", MOST_IN_TWO_BYTES)?;
+        line.expect_end("the trunk number")?;
+        Ok(trunk as u16)
+    }
+
     fn add_tree(&mut self, line: &mut Line) -> Result<(), Fault> {
-        if self.network.trees.len() == MOST_TREE_LINES {
+        if self.tree_lines.len() == MOST_TREE_LINES {
             return line.fault(&format!("expected at most {MOST_TREE_LINES} trees, found one more"));
         }
         line.expect_word("share", "'tree'")?;
         let share = line.expect_number("a share behind 'share'", MOST_IN_FOUR_BYTES)?;
         line.expect_word("links", "the share")?;
         let members = self.read_members(line)?;
-        self.network.trees.push(Tree { share, members });
+        self.contents.network.trees.push(Tree { share, members });
         self.tree_lines.push(line.number());
         Ok(())
     }
 
     /// The link numbers up to the end of a tree's line, sorted.
     fn read_members(&self, line: &mut Line) -> Result<Vec<usize>, Fault> {
-        let links = self.network.links.len();
+        let links = self.link_lines.len();
         let mut held = vec![false; links];
         while !line.ended() {
             let member = line.expect_number("a link number", MOST_IN_TWO_BYTES)?;
@@ -169,11 +181,18 @@ impl Parsed {
     }
 }
 
-/// The text of a network, a line for each record: `parse` gives the same network again.
-pub fn write(network: &Network) -> String {
+/// The text of a network, a line for each record: `parse` gives the same network and trunk numbers again.
+pub fn write(contents: &Contents) -> String {
+    let Contents { network, trunks } = contents;
     let mut text = format!("nodes {}\n", network.nodes);
-    for link in &network.links {
-        let _ = writeln!(text, "link {}-{}:{}", link.first, link.second, link.weight);
+    let mut before = 0;
+    for (link, &trunk) in network.links.iter().zip(trunks) {
+        let _ = write!(text, "link {}-{}:{}", link.first, link.second, link.weight);
+        if trunk != before {
+            let _ = write!(text, " trunk {trunk}");
+        }
+        text.push('\n');
+        before = trunk;
     }
     for tree in &network.trees {
         let _ = write!(text, "tree share {} links", tree.share);

@@ -72,6 +72,14 @@ fn text_becomes_a_sheet_and_text_again() {
 }
 
 #[test]
+fn trunk_numbers_become_bytes_and_text_again() {
+    let text = "nodes 2\nlink 0-1:4\nlink 0-1:4 trunk 263\nlink 0-1:4\ntree share 4 links 0\n";
+    let sheet = vec![2, 0, 3, 0, 1, 7, 0, 0, 1, 0, 4, 0, 0, 0, 8, 7, 1, 0, 4, 0, 0, 0, 1];
+    assert_eq!(network(&["sheet"], text.as_bytes()), (Some(0), sheet.clone(), String::new()));
+    assert_eq!(network(&["text"], &sheet), (Some(0), text.as_bytes().to_vec(), String::new()));
+}
+
+#[test]
 fn a_fault_names_file_and_line() {
     let expected = "standard input:2: link 3-: expected a node number behind the '-'\n";
     assert_eq!(network(&["sheet"], b"nodes 4\nlink 3-\n"), (Some(1), vec![], expected.to_string()));
@@ -92,9 +100,12 @@ fn a_sheet_that_will_be_refused_is_written_with_a_note() {
 
 #[test]
 fn a_refused_sheet_has_no_text() {
-    let refusals: [(&[u8], &str); 4] = [
+    let (map_16, cut_off) = ([&CASE_A[..14], &[16]].concat(), [&CASE_A[..14], &[8, 5]].concat());
+    let refusals: [(&[u8], &str); 6] = [
         (&CASE_A[..4], "number 3, at the header: the sheet has fewer than 5 bytes"),
         (&CASE_A[..14], "number 7, at link 1: no map byte is left for a link"),
+        (&map_16, "number 8, at link 1: a map byte exceeds 15, or link 0's map byte is neither 7 nor 15"),
+        (&cut_off, "number 9, at link 1: the sheet ends before the last byte of a field whose bit stands"),
         (&CASE_A[..34], "number 12, at tree 0: the sheet ends inside or before a tree record"),
         (&[&CASE_A[..], &[0]].concat(), "number 16, at the end: bytes follow the last tree"),
     ];

@@ -86,10 +86,10 @@ fn print(bytes: &[u8]) {
 /// Writes the sheet, and a note if the monitor will refuse it.
 fn sheet_of_text(source: &Source) -> Result<(), String> {
     let parsed = source.parse()?;
-    let bytes = sheet::write(&parsed.network);
+    let bytes = sheet::write_contents(&parsed.contents);
     if let Err(refusal) = sheet::read(&bytes) {
         let Refusal { number, .. } = refusal;
-        let (line, why) = (parsed.line_of(&refusal), explain::refusal_of(&parsed.network, &refusal));
+        let (line, why) = (parsed.line_of(&refusal), explain::refusal_of(&parsed.contents.network, &refusal));
         eprintln!("{}:{line}: the monitor refuses this sheet, number {number}: {why}", source.name());
     }
     print(&bytes);
@@ -97,9 +97,9 @@ fn sheet_of_text(source: &Source) -> Result<(), String> {
 }
 
 fn text_of_sheet(source: &Source) -> Result<(), String> {
-    match sheet::read(&source.read()?) {
-        Ok(network) => {
-            print(text::write(&network).as_bytes());
+    match sheet::read_contents(&source.read()?) {
+        Ok(contents) => {
+            print(text::write(&contents).as_bytes());
             Ok(())
         }
         Err(Refusal { number, place }) => {
@@ -126,7 +126,7 @@ fn report_all(program: &OsStr, files: &[&OsStr]) -> ExitCode {
 /// Prints the title of a network and its path as given, the report program's lines for it, and what they mean.
 fn report(program: &OsStr, source: &Source) -> Result<(), String> {
     let parsed = source.parse()?;
-    let bytes = sheet::write(&parsed.network);
+    let bytes = sheet::write_contents(&parsed.contents);
     let lines = lines_of(program, &bytes).map_err(|error| format!("{}: {error}", source.name()))?;
     let failed = |what| format!("{}: {} printed {lines:?}: {what}", source.name(), program.to_string_lossy());
     let meaning = meaning(&parsed, &bytes, &lines).map_err(failed)?;
@@ -144,7 +144,7 @@ fn meaning(parsed: &Parsed, sheet: &[u8], lines: &str) -> Result<String, String>
     match (printed, sheet::read(sheet)) {
         (Printed::Answered(answer), Ok(network)) => Ok(explain::sentence(&network, &answer)?),
         (Printed::Refused(number), Err(refusal)) if refusal.number == number => {
-            let (line, why) = (parsed.line_of(&refusal), explain::refusal_of(&parsed.network, &refusal));
+            let (line, why) = (parsed.line_of(&refusal), explain::refusal_of(&parsed.contents.network, &refusal));
             Ok(format!("The sheet is refused for line {line}: {why}."))
         }
         (_, Err(refusal)) => Err(format!("the sheet has to be refused, number {}", refusal.number)),

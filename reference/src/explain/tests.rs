@@ -4,7 +4,7 @@ use crate::text;
 const RING: &str = "nodes 4\nlink 0-1:1\nlink 1-2:1\nlink 2-3:1\nlink 3-0:1\n";
 
 fn network(text: &str) -> Network {
-    text::parse(text.as_bytes()).expect("a text without a fault").network
+    text::parse(text.as_bytes()).expect("a text without a fault").contents.network
 }
 
 fn answer(lines: &str) -> Answer {
@@ -23,6 +23,7 @@ fn assert_sentence(text: &str, lines: &str, expected: Result<&str, &'static str>
 fn refusal_numbers_are_1_to_16() {
     assert_eq!(meaning(0), None);
     assert_eq!(meaning(1), Some("the side area has fewer than 32 bytes"));
+    assert_eq!(meaning(8), Some("a map byte exceeds 15, or link 0's map byte is neither 7 nor 15"));
     assert_eq!(meaning(15), Some("the member links do not join every node to node 0"));
     assert_eq!(meaning(16), Some("bytes follow the last tree"));
     assert_eq!(meaning(17), None);

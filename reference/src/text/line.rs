@@ -68,6 +68,18 @@ impl<'a> Line<'a> {
         Ok(())
     }
 
+    /// Takes the word, unless the line has ended; whether the word was there.
+    pub fn word_or_end(&mut self, word: &str, behind: &str) -> Result<bool, Fault> {
+        if self.ended() {
+            return Ok(false);
+        }
+        if self.next_word() != word {
+            return self.fault_here(&format!("'{word}' or the end of the line behind {behind}"));
+        }
+        self.expect_word(word, behind)?;
+        Ok(true)
+    }
+
     pub fn expect_sign(&mut self, sign: char, behind: &str) -> Result<(), Fault> {
         if !self.unread.starts_with(sign) {
             return self.fault_here(&format!("a '{sign}' behind {behind}"));

@@ -6,8 +6,8 @@ use std::path::Path;
 /// Document 01's case A.
 const TRIANGLE: &str = "nodes 3\nlink 0-1:3\nlink 1-2:2\nlink 0-2:4\ntree share 2 links 0 2\n";
 
-fn network(text: &str) -> Network {
-    parse(text.as_bytes()).expect("a text without a fault").network
+fn contents(text: &str) -> Contents {
+    parse(text.as_bytes()).expect("a text without a fault").contents
 }
 
 #[track_caller]
@@ -17,15 +17,15 @@ fn assert_fault(text: impl AsRef<[u8]>, line: usize, message: &str) {
 
 #[test]
 fn case_a_has_document_01s_bytes() {
-    assert_eq!(sheet::write(&network(TRIANGLE)), CASE_A);
-    assert_eq!(write(&sheet::read(&CASE_A).expect("an accepted sheet")), TRIANGLE);
+    assert_eq!(sheet::write_contents(&contents(TRIANGLE)), CASE_A);
+    assert_eq!(write(&sheet::read_contents(&CASE_A).expect("an accepted sheet")), TRIANGLE);
 }
 
 #[test]
 fn spaces_comments_and_line_ends_do_not_matter() {
     let loose = "\u{feff}\r\n#\r\n  ## A triangle \r\n\tnodes  3 # three\r\n\r\nlink 0 - 1 : 3\r\nlink\t1-2:02\r\n \
                  # not a link\r\nlink 0-2:4#four\r\ntree  share 2   links 2 0";
-    assert_eq!(network(loose), network(TRIANGLE));
+    assert_eq!(contents(loose), contents(TRIANGLE));
     let lines = |text: &str| {
         let parsed = parse(text.as_bytes()).expect("a text without a fault");
         (parsed.title, parsed.nodes_line, parsed.link_lines, parsed.tree_lines)
@@ -42,11 +42,35 @@ fn every_network_that_fits_the_fields_comes_back() {
         "nodes 4\nlink 0-1:1\nlink 0-1:1\nlink 2-3:1000001\ntree share 1 links 1\ntree share 1 links 1\n",
     ];
     for text in texts {
-        assert_eq!(write(&network(text)), text);
+        assert_eq!(write(&contents(text)), text);
     }
     let links = [Link { first: 65_535, second: 0, weight: 4_294_967_295 }, Link { first: 7, second: 7, weight: 0 }];
     let trees = [Tree { share: 4_294_967_295, members: vec![0, 1] }, Tree { share: 0, members: vec![] }];
-    assert_eq!(network(texts[1]), Network { nodes: 65_535, links: links.to_vec(), trees: trees.to_vec() });
+    let network = Network { nodes: 65_535, links: links.to_vec(), trees: trees.to_vec() };
+    assert_eq!(contents(texts[1]), Contents { network, trunks: vec![0, 0] });
+}
+
+#[test]
+fn a_trunk_number_stays_up_to_the_next() {
+    let text = "nodes 2\nlink 0-1:4\nlink 0-1:4 trunk 65535\nlink 0-1:4\nlink 0-1:4 trunk 0\nlink 0-1:4 trunk 263\n";
+    assert_eq!(contents(text).trunks, [0, 65_535, 65_535, 0, 263]);
+    assert_eq!(write(&contents(text)), text);
+    let again = "nodes 2\nlink 0-1:4 trunk 0\nlink 0-1:4\ttrunk  65535 # trench 3\nlink 0-1:4 trunk 65535\nlink 0-1:4 trunk 00\n\
+                 link 0-1:4 trunk 263\n";
+    assert_eq!(contents(again), contents(text));
+    let from_link_0 = "nodes 2\nlink 0-1:4 trunk 1\nlink 1-0:4\n";
+    assert_eq!(contents(from_link_0).trunks, [1, 1]);
+    assert_eq!(write(&contents(from_link_0)), from_link_0);
+}
+
+#[test]
+fn trunk_numbers_have_request_f_9s_bytes() {
+    let text = TRIANGLE.replace("0-1:3", "0-1:3 trunk 263").replace("0-2:4", "0-2:4 trunk 5");
+    let link_0 = [0x0F, 0x00, 0x00, 0x01, 0x00, 0x03, 0x00, 0x00, 0x00, 0x07, 0x01];
+    let link_2 = [0x0D, 0x00, 0x00, 0x04, 0x00, 0x00, 0x00, 0x05, 0x00];
+    let sheet = [&CASE_A[..5], &link_0, &CASE_A[14..23], &link_2, &CASE_A[30..]].concat();
+    assert_eq!(sheet::write_contents(&contents(&text)), sheet);
+    assert_eq!(write(&sheet::read_contents(&sheet).expect("an accepted sheet")), text);
 }
 
 #[test]
@@ -99,8 +123,15 @@ fn a_wrong_link_is_a_fault() {
         ("link 0-1 7", "expected a ':' behind the second node number, found '7'"),
         ("link 0-1:", "expected a weight behind the ':'"),
         ("link 0-1:4294967296", "expected a weight behind the ':' that is at most 4294967295, found '4294967296'"),
-        ("link 0-1:1,000", "expected nothing more behind the weight, found ',000'"),
-        ("link 0-1:1.5", "expected nothing more behind the weight, found '.5'"),
+        ("link 0-1:1,000", "expected 'trunk' or the end of the line behind the weight, found ',000'"),
+        ("link 0-1:1.5", "expected 'trunk' or the end of the line behind the weight, found '.5'"),
+        ("link 0-1:1 263", "expected 'trunk' or the end of the line behind the weight, found '263'"),
+        ("link 0-1:1 trunk263", "expected 'trunk' or the end of the line behind the weight, found 'trunk263'"),
+        ("link 0-1:1trunk 263", "expected a space between the weight and 'trunk'"),
+        ("link 0-1:1 trunk", "expected a trunk number behind 'trunk'"),
+        ("link 0-1:1 trunk -1", "expected a trunk number behind 'trunk', found '-1'"),
+        ("link 0-1:1 trunk 65536", "expected a trunk number behind 'trunk' that is at most 65535, found '65536'"),
+        ("link 0-1:1 trunk 1 2", "expected nothing more behind the trunk number, found '2'"),
     ];
     for (link, expected) in faults {
         assert_fault(format!("nodes 4\n# links\n {link} # end\n"), 3, &format!("{link}: {expected}"));
@@ -141,10 +172,10 @@ fn a_wrong_tree_is_a_fault() {
 #[test]
 fn more_records_than_a_sheet_counts_are_a_fault() {
     let links = format!("nodes 2\n{}", "link 0-1:1\n".repeat(65_535));
-    assert_eq!(network(&links).links.len(), 65_535);
+    assert_eq!(contents(&links).network.links.len(), 65_535);
     assert_fault(links + "link 1-0:1", 65_537, "link 1-0:1: expected at most 65535 links, found one more");
     let trees = format!("nodes 2\nlink 0-1:1\n{}", "tree share 1 links 0\n".repeat(255));
-    assert_eq!(network(&trees).trees.len(), 255);
+    assert_eq!(contents(&trees).network.trees.len(), 255);
     let expected = "tree share 1 links 0: expected at most 255 trees, found one more";
     assert_fault(trees + "tree share 1 links 0", 258, expected);
 }
@@ -172,9 +203,9 @@ fn a_refusal_names_the_line_and_the_numbers() {
     ];
     for (text, number, line, words) in refusals {
         let parsed = parse(text.as_bytes()).expect("a text without a fault");
-        let refusal = sheet::read(&sheet::write(&parsed.network)).expect_err("a refused sheet");
+        let refusal = sheet::read(&sheet::write_contents(&parsed.contents)).expect_err("a refused sheet");
         assert_eq!((refusal.number, parsed.line_of(&refusal)), (number, line), "{text}");
-        assert_eq!(explain::refusal_of(&parsed.network, &refusal), words);
+        assert_eq!(explain::refusal_of(&parsed.contents.network, &refusal), words);
     }
 }
 
@@ -184,7 +215,7 @@ const NOT_JOINED: &str = "the links of tree 0 do not join every node to node 0";
 
 /// The networks of `examples/` and their reports, by name. The lettered ones are document 01's. In the works network halls B to
 /// E, with links of 100, 100 and 50 to the rest, are the only nodes that hang by less than 300.
-const EXAMPLES: [(&str, &str); 21] = [
+const EXAMPLES: [(&str, &str); 22] = [
     ("a-triangle.net", "answer 2 5 5 0 0 - 1\nside 1\n"),
     ("b-triangle-low-share.net", "answer 1 5 3 0 0 - 1\nside 1\n"),
     ("c-ring.net", "answer 2 2 2 0 0 - 3\nside 1 2 3\n"),
@@ -205,6 +236,7 @@ const EXAMPLES: [(&str, &str); 21] = [
     ("refused-06-no-tree.net", "refused 6\n"),
     ("refused-14-ring.net", "refused 14\n"),
     ("refused-15-parallel.net", "refused 15\n"),
+    ("trenches.net", "answer 2 9 9 0 0 1 1\nside 1\n"),
     ("works.net", "answer 2 250 250 0 3 7 18\nside 3 4 5 6 18 19 20 21 22 23 24 25 26 27 28 29 30 31\n"),
 ];
 
@@ -215,7 +247,7 @@ fn examples_have_a_title_and_the_expected_report() {
         let file = std::fs::read(folder.join(name)).expect(name);
         let parsed = parse(&file).expect(name);
         assert!(parsed.title.is_some(), "{name} has no title");
-        assert_eq!(report::lines(&report::outcome(&sheet::write(&parsed.network))), lines, "{name}");
+        assert_eq!(report::lines(&report::outcome(&sheet::write_contents(&parsed.contents))), lines, "{name}");
     }
     let mut names: Vec<String> = std::fs::read_dir(folder)
         .expect("the folder of the examples")
@@ -224,4 +256,12 @@ fn examples_have_a_title_and_the_expected_report() {
         .collect();
     names.sort();
     assert_eq!(names, EXAMPLES.map(|(name, _)| name));
+}
+
+#[test]
+fn the_trenches_have_their_trunk_numbers() {
+    let path = Path::new(env!("CARGO_MANIFEST_DIR")).join("../examples/trenches.net");
+    let parsed = parse(&std::fs::read(path).expect("the example")).expect("a text without a fault");
+    let reading = sheet::read_contents(&sheet::write_contents(&parsed.contents));
+    assert_eq!(report::trunk_lines(&reading), "0 12\n1 12\n2 30\n3 30\n4 0\n");
 }

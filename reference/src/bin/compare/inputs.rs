@@ -1,4 +1,4 @@
-//! Inputs of the report program: longer than it reads, and sent in pieces.
+//! Inputs of both programs: longer than they read, and sent in pieces.
 
 use reference::documented::CASE_A;
 use reference::faults::{self, Base};
@@ -10,14 +10,14 @@ use crate::judge::{Judge, Judged, Through};
 use crate::program::MOST_INPUT;
 use crate::sheets;
 
-/// Inputs about as long as the program reads, and much longer.
-const LENGTHS: [usize; 4] = [MOST_INPUT - 1, MOST_INPUT, MOST_INPUT + 1, 100_000];
+/// Inputs one byte longer than a sheet, about as long as the programs read, and much longer.
+const LENGTHS: [usize; 5] = [LONGEST_SHEET + 1, MOST_INPUT - 1, MOST_INPUT, MOST_INPUT + 1, 100_000];
 
-/// Inputs that are longer than any sheet. The bytes that the program does not read must not matter.
+/// Inputs that are longer than any sheet. The bytes that the programs do not read must not matter.
 pub fn long_inputs(judge: &mut Judge, random: &mut Random) -> Judged {
     judge.kind("long inputs");
     let longest = sheets::longest_sheet(random, 3);
-    judge.sheet(&longest.sheet, Through::Both)?;
+    judge.sheet(&longest.sheet, Through::All)?;
     for start in starts(random, &longest) {
         for length in LENGTHS {
             let mut input = start.clone();
@@ -29,7 +29,7 @@ pub fn long_inputs(judge: &mut Judge, random: &mut Random) -> Judged {
     }
     for more in 1..=4 {
         let behind = random.bytes(more);
-        judge.sheet(&[&longest.sheet[..], &behind].concat(), Through::Both)?;
+        judge.sheet(&[&longest.sheet[..], &behind].concat(), Through::All)?;
     }
     Ok(())
 }
@@ -44,6 +44,7 @@ fn starts(random: &mut Random, longest: &Base) -> Vec<Vec<u8>> {
         let found = faults.iter().find(|fault| fault.refusal.number == number);
         starts.extend(found.map(|fault| faults::damaged(&small, &[fault])));
     }
+    starts.extend(faults::bases().pop().map(|with_trunks| with_trunks.sheet));
     for _ in 0..10 {
         starts.push(sheets::changed(random, &longest.sheet));
     }
@@ -59,10 +60,10 @@ fn long_input(judge: &mut Judge, input: &[u8]) -> Judged {
     if whole != read {
         return judge.differs(input, report::lines(&whole), report::lines(&read));
     }
-    judge.expect(input, &whole, Through::Both)
+    judge.expect(input, &whole, Through::All)
 }
 
-/// Inputs sent in pieces with pauses, so that the program's reads come short.
+/// Inputs sent in pieces with pauses, so that the programs' reads come short.
 pub fn short_reads(judge: &mut Judge, random: &mut Random) -> Judged {
     judge.kind("inputs in pieces");
     for pause in 0..=CASE_A.len() {

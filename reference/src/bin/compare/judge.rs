@@ -1,14 +1,16 @@
-//! Holds what the entry and the program answer against what is expected, and counts.
+//! Holds what the entry and both programs answer against what is expected, and counts.
 
 use std::fmt;
 use std::io;
-use std::path::PathBuf;
+use std::path::{Path, PathBuf};
+use std::thread;
 
 use reference::cuts::{self, Answer, Counting};
 use reference::network::Network;
 use reference::random::Random;
 use reference::report::{self, Outcome, REPORT_BYTES, SIDE_BYTES};
-use reference::sheet::{self, BASE};
+use reference::sheet::{self, Reading};
+use reference::trunks::{Readings, Seen};
 use reference::{every_side, sold};
 
 use crate::entry::{self, Lent};
@@ -16,8 +18,6 @@ use crate::program::{self, Run};
 
 const LONGEST_AREA: usize = 40;
 const LAST_REFUSAL: usize = 16;
-/// What units already sold give to a weight above 1,000,000.
-const RAISED_REFUSAL: u32 = 11;
 
 /// A sheet that has another answer than the expected one.
 pub struct Difference {
@@ -39,7 +39,9 @@ impl fmt::Display for Difference {
 /// Why the comparison ends early.
 pub enum Stop {
     Differs(Difference),
-    CannotRun(io::Error),
+    CannotRun(PathBuf, io::Error),
+    /// No case has what some must have.
+    Lacks(&'static str),
 }
 
 impl Stop {
@@ -50,27 +52,34 @@ impl Stop {
                 let kind = format!("{}: {name}", difference.kind);
                 Stop::Differs(Difference { kind, ..difference })
             }
-            Stop::CannotRun(error) => Stop::CannotRun(error),
+            other => other,
         }
     }
 }
 
 pub type Judged = Result<(), Stop>;
 
-/// Which way a sheet goes: to the entry, or to the program too.
+/// Which way a sheet goes: to the entry, or to both programs too.
 #[derive(Clone, Copy)]
 pub enum Through {
     Entry,
-    Both,
+    All,
+}
+
+/// The report program, and the cable crew's.
+pub struct Programs {
+    pub report: PathBuf,
+    pub trunks: PathBuf,
 }
 
 /// What was judged of one kind.
 #[derive(Default)]
 pub struct Row {
     pub kind: String,
-    /// Calls of the entry, and runs of the program.
+    /// Calls of the entry, and runs of each program.
     pub entry: u64,
-    pub program: u64,
+    pub report: u64,
+    pub trunks: u64,
     /// Cases by their expected outcome.
     pub accepted: u64,
     pub refused: u64,
@@ -111,9 +120,29 @@ impl Runs {
     }
 }
 
+/// How many sheets have bit 3 in the map of a link record that a reader comes to.
+#[derive(Default)]
+pub struct Trunked {
+    pub sheets: u64,
+    pub accepted: u64,
+    /// With a trunk number that is cut off.
+    pub cut_off: u64,
+    /// With a weight before it that document 01's format refuses.
+    pub raised: u64,
+}
+
+impl Trunked {
+    fn count(&mut self, seen: &Seen, accepted: bool) {
+        self.sheets += u64::from(seen.trunk);
+        self.accepted += u64::from(seen.trunk && accepted);
+        self.cut_off += u64::from(seen.cut_off);
+        self.raised += u64::from(seen.trunk && seen.raised);
+    }
+}
+
 pub struct Judge {
-    program: PathBuf,
-    /// For the lengths and patterns of areas, and for which sheets go through the program too.
+    programs: Programs,
+    /// For the lengths and patterns of areas, and for which sheets go through the programs too.
     random: Random,
     pub rows: Vec<Row>,
     current_row: usize,
@@ -125,17 +154,18 @@ pub struct Judge {
     pub by_every_side: u64,
     /// How many networks were written in a longer sheet than the shortest.
     pub longer: u64,
-    /// How many sheets units already sold accept, or refuse by another number than 11.
+    /// How many sheets units already sold read the same.
     pub as_sold: u64,
+    pub trunked: Trunked,
     /// How many cases have another floor, and another verdict, than by the rule of units already sold.
     pub other_floor: u64,
     pub other_verdict: u64,
 }
 
 impl Judge {
-    pub fn new(program: PathBuf, seed: u64) -> Judge {
+    pub fn new(programs: Programs, seed: u64) -> Judge {
         Judge {
-            program,
+            programs,
             random: Random::new(!seed),
             rows: vec![Row::default()],
             current_row: 0,
@@ -145,6 +175,7 @@ impl Judge {
             by_every_side: 0,
             longer: 0,
             as_sold: 0,
+            trunked: Trunked::default(),
             other_floor: 0,
             other_verdict: 0,
         }
@@ -168,15 +199,30 @@ impl Judge {
         self.rows.iter().map(|row| row.accepted + row.refused).sum()
     }
 
-    /// How many calls of the entry and runs of the program were judged.
+    /// How many calls of the entry and runs of the programs were judged.
     pub fn calls_and_runs(&self) -> u64 {
-        self.rows.iter().map(|row| row.entry + row.program).sum()
+        self.rows.iter().map(|row| row.entry + row.report + row.trunks).sum()
     }
 
-    /// Through both once in so many times, else through the entry only.
-    pub fn both_once_in(&mut self, times: usize) -> Through {
+    /// Sheets with bit 3 of every kind that is counted have to be among the cases.
+    pub fn saw_trunks(&self) -> Judged {
+        let Trunked { sheets, accepted, cut_off, raised } = self.trunked;
+        let counts = [
+            (accepted, "a trunk number in an accepted sheet"),
+            (cut_off, "a trunk number that is cut off"),
+            (sheets - raised, "a trunk number that units already sold refuse with 8"),
+            (raised, "a trunk number behind a weight that units already sold refuse with 11"),
+        ];
+        match counts.into_iter().find(|(count, _)| *count == 0) {
+            None => Ok(()),
+            Some((_, lacking)) => Err(Stop::Lacks(lacking)),
+        }
+    }
+
+    /// Through all once in so many times, else through the entry only.
+    pub fn all_once_in(&mut self, times: usize) -> Through {
         if self.random.once_in(times) {
-            Through::Both
+            Through::All
         } else {
             Through::Entry
         }
@@ -184,41 +230,44 @@ impl Judge {
 
     /// The sheet's answer is the reference's.
     pub fn sheet(&mut self, sheet: &[u8], through: Through) -> Judged {
-        self.expect(sheet, &report::outcome(sheet), through)
+        let readings = Readings::of(sheet);
+        self.judged(sheet, &report::outcome_of(&readings.current), &readings, through)
     }
 
-    /// The sheet's answer is the expected one.
+    /// The sheet's answer is the expected one, and a refusal is the reference's too.
     pub fn expect(&mut self, sheet: &[u8], expected: &Outcome, through: Through) -> Judged {
+        self.judged(sheet, expected, &Readings::of(sheet), through)
+    }
+
+    fn judged(&mut self, sheet: &[u8], expected: &Outcome, readings: &Readings, through: Through) -> Judged {
         self.count(expected);
-        self.read_as_sold(sheet, expected)?;
-        if let (Ok(answer), Ok(network)) = (expected, sheet::read(sheet)) {
-            self.runs.count(&network);
-            self.keeps_of_sold(sheet, &network, answer)?;
+        self.reads_as_before(sheet, expected, readings)?;
+        if let (Ok(answer), Ok(contents)) = (expected, &readings.current) {
+            self.runs.count(&contents.network);
+            self.keeps_of_sold(sheet, &contents.network, answer)?;
         }
         let side_length = self.random.between(SIDE_BYTES, LONGEST_AREA);
         let report_length = self.random.between(REPORT_BYTES, LONGEST_AREA);
         self.through_entry(sheet, expected, side_length, report_length)?;
         match through {
             Through::Entry => Ok(()),
-            Through::Both => self.through_program(sheet, expected, &[]),
+            Through::All => self.through_programs(sheet, expected, &readings.current, &[]),
         }
     }
 
-    /// What document 01's format accepts is expected to be accepted with the same network, and what it refuses by another number
-    /// than 11 to be refused by that.
-    fn read_as_sold(&mut self, sheet: &[u8], expected: &Outcome) -> Judged {
-        let sold = sheet::read_in(&BASE, sheet);
-        if sold.as_ref().is_err_and(|refusal| refusal.number == RAISED_REFUSAL) {
-            return Ok(());
+    /// An expected refusal is the reference's, whose readings keep what they have to.
+    fn reads_as_before(&mut self, sheet: &[u8], expected: &Outcome, readings: &Readings) -> Judged {
+        let (expected, read) = (expected.as_ref().err(), readings.current.as_ref().err());
+        if expected != read {
+            return self.differs(sheet, format!("refusal {expected:?}\n"), format!("{read:?}, by the reference\n"));
         }
-        self.as_sold += 1;
-        let current = match expected {
-            Ok(_) => sheet::read(sheet),
-            Err(refusal) => Err(*refusal),
-        };
-        match sold == current {
-            true => Ok(()),
-            false => self.differs(sheet, format!("{sold:?}\n"), format!("{current:?}\n")),
+        match readings.check(sheet) {
+            Ok(seen) => {
+                self.as_sold += u64::from(seen.as_sold);
+                self.trunked.count(&seen, readings.current.is_ok());
+                Ok(())
+            }
+            Err(claim) => self.differs(sheet, format!("{claim}\n"), format!("{readings:?}\n")),
         }
     }
 
@@ -237,11 +286,12 @@ impl Judge {
         }
     }
 
-    /// The sheet is sent to the program with a pause at each of the offsets.
+    /// The sheet is sent to both programs with a pause at each of the offsets.
     pub fn with_pauses(&mut self, sheet: &[u8], pauses: &[usize]) -> Judged {
-        let expected = report::outcome(sheet);
+        let reading = sheet::read_contents(sheet);
+        let expected = report::outcome_of(&reading);
         self.count(&expected);
-        self.through_program(sheet, &expected, pauses)
+        self.through_programs(sheet, &expected, &reading, pauses)
     }
 
     /// The entry is called with areas of all lengths from 0 on.
@@ -310,19 +360,32 @@ impl Judge {
         self.differs(sheet, expected, got)
     }
 
-    fn through_program(&mut self, sheet: &[u8], outcome: &Outcome, pauses: &[usize]) -> Judged {
-        let run = program::run(&self.program, sheet, pauses).map_err(Stop::CannotRun)?;
-        self.row().program += 1;
-        let expected = Run::of_lines(report::lines(outcome));
-        if run == expected {
-            return Ok(());
+    /// Both programs run at the same time.
+    fn through_programs(&mut self, sheet: &[u8], outcome: &Outcome, reading: &Reading, pauses: &[usize]) -> Judged {
+        self.row().report += 1;
+        self.row().trunks += 1;
+        let Programs { report, trunks } = &self.programs;
+        thread::scope(|scope| {
+            let trunks = scope.spawn(|| self.through_program(trunks, sheet, pauses, report::trunk_lines(reading)));
+            let judged = self.through_program(report, sheet, pauses, report::lines(outcome));
+            judged.and(trunks.join().expect("judging a run does not panic"))
+        })
+    }
+
+    fn through_program(&self, program: &Path, sheet: &[u8], pauses: &[usize], lines: String) -> Judged {
+        let run =
+            program::run(program, sheet, pauses).map_err(|error| Stop::CannotRun(program.to_path_buf(), error))?;
+        let expected = Run::of_lines(lines);
+        match run == expected {
+            true => Ok(()),
+            false => self.differs(sheet, expected.show(), format!("{}by {}\n", run.show(), program.display())),
         }
-        self.differs(sheet, expected.show(), run.show())
     }
 
     /// Ends the comparison: the sheet has another answer than the expected one.
-    pub fn differs(&mut self, sheet: &[u8], expected: String, got: String) -> Judged {
-        Err(Stop::Differs(Difference { kind: self.row().kind.clone(), sheet: sheet.to_vec(), expected, got }))
+    pub fn differs(&self, sheet: &[u8], expected: String, got: String) -> Judged {
+        let kind = self.rows[self.current_row].kind.clone();
+        Err(Stop::Differs(Difference { kind, sheet: sheet.to_vec(), expected, got }))
     }
 }
 

@@ -1,4 +1,5 @@
-//! Compares the monitor with the second implementation: the C entry of the archive that is linked in, and the report program.
+//! Compares the monitor with the second implementation: the C entry of the archive that is linked in, the report program and the cable
+//! crew's program.
 
 mod entry;
 mod inputs;
@@ -13,32 +14,33 @@ use std::path::PathBuf;
 use std::process::ExitCode;
 use std::time::{SystemTime, UNIX_EPOCH};
 
-use judge::{Judge, Judged, Runs, Stop};
+use judge::{Judge, Judged, Programs, Runs, Stop, Trunked};
 use networks::Counts;
 use reference::random::Random;
 
 const USAGE: &str = "\
-usage: compare PROGRAM [--seed S] [--soak N]
+usage: compare REPORT TRUNKS [--seed S] [--soak N]
 
-Sends sheets to the C entry and to the report program PROGRAM, and holds number, areas, lines and exit status against
-the reference's.
-Without --soak: a fixed share of every kind, about a minute long, with seed 1 unless --seed gives another.
+Sends sheets to the C entry, to the report program REPORT and to the cable crew's program TRUNKS, and holds number, areas,
+lines and exit status against the reference's.
+Without --soak: a fixed share of every kind, one to two minutes long, with seed 1 unless --seed gives another.
 With --soak N, from 1 on: N random cases with a new seed, which is printed first; --seed S --soak N runs the same again.
-Prints how many of what kind were run. A case is a sheet with its areas or pauses; it has an answer of the entry, one of the
-program, or both. The first answer that differs is printed with its sheet, and ends it with status 1.";
+Prints how many of what kind were run. A case is a sheet with its areas or pauses; it has an answer of the entry, one of each
+program, or all three. The first answer that differs is printed with its sheet, and ends it with status 1.";
 
 const FIXED_SEED: u64 = 1;
 
 struct Settings {
-    program: PathBuf,
+    programs: Programs,
     seed: Option<u64>,
     soak: Option<u64>,
 }
 
 fn settings() -> Option<Settings> {
     let mut arguments = std::env::args_os().skip(1);
-    let program = PathBuf::from(arguments.next().filter(|name| name != "--help")?);
-    let mut settings = Settings { program, seed: None, soak: None };
+    let mut program = || arguments.next().filter(|name| name != "--help").map(PathBuf::from);
+    let programs = Programs { report: program()?, trunks: program()? };
+    let mut settings = Settings { programs, seed: None, soak: None };
     while let Some(name) = arguments.next() {
         let value = arguments.next()?.to_str()?.parse().ok()?;
         match name.to_str()? {
@@ -67,13 +69,17 @@ fn fixed_share(judge: &mut Judge, random: &mut Random) -> Judged {
     inputs::short_reads(judge, random)?;
     networks::of_every_feature(judge, random, &Counts { small: 800, middle: 100, large: 8 })?;
     networks::at_the_limits(judge, random)?;
-    shapes::of_every_kind(judge, random, 400)
+    shapes::of_every_kind(judge, random, 400)?;
+    judge.saw_trunks()
 }
 
 fn print_table(judge: &Judge) {
-    println!("{:<44}{:>10}{:>10}{:>10}{:>10}", "kind", "entry", "program", "accepted", "refused");
-    for row in judge.rows.iter().filter(|row| row.entry + row.program > 0) {
-        println!("{:<44}{:>10}{:>10}{:>10}{:>10}", row.kind, row.entry, row.program, row.accepted, row.refused);
+    println!("{:<44}{:>10}{:>10}{:>10}{:>10}{:>10}", "kind", "entry", "report", "trunks", "accepted", "refused");
+    for row in judge.rows.iter().filter(|row| row.entry + row.report > 0) {
+        println!(
+            "{:<44}{:>10}{:>10}{:>10}{:>10}{:>10}",
+            row.kind, row.entry, row.report, row.trunks, row.accepted, row.refused
+        );
     }
     let answers = &judge.answers;
     println!(
@@ -87,6 +93,9 @@ fn print_table(judge: &Judge) {
     let refusals: Vec<String> = numbers.map(|(number, count)| format!("{number}: {count}")).collect();
     println!("refused: {}", refusals.join(", "));
     println!("as units already sold read them: {}", judge.as_sold);
+    let Trunked { sheets, accepted, cut_off, raised } = judge.trunked;
+    println!("with bit 3: {sheets}, of them accepted: {accepted}, with a trunk number cut off: {cut_off}");
+    println!("refused by units already sold for bit 3: {} with 8, {raised} with 11 first", sheets - raised);
     println!(
         "another floor than by the rule of units already sold: {}, another verdict: {}",
         judge.other_floor, judge.other_verdict
@@ -104,21 +113,25 @@ fn main() -> ExitCode {
     };
     let default_seed = if settings.soak.is_some() { new_seed() } else { FIXED_SEED };
     let seed = settings.seed.unwrap_or(default_seed);
-    let mut judge = Judge::new(settings.program, seed);
+    let mut judge = Judge::new(settings.programs, seed);
     let mut random = Random::new(seed);
     println!("seed {seed}");
     let judged = match settings.soak {
         Some(cases) => soak::run(&mut judge, &mut random, cases),
         None => fixed_share(&mut judge, &mut random),
     };
-    if let Err(Stop::CannotRun(error)) = judged {
-        eprintln!("the report program cannot be run: {error}");
+    if let Err(Stop::CannotRun(program, error)) = judged {
+        eprintln!("{} cannot be run: {error}", program.display());
         return ExitCode::from(2);
     }
     print_table(&judge);
     let (cases, answers) = (judge.cases(), judge.calls_and_runs());
     if let Err(Stop::Differs(difference)) = judged {
         println!("{difference}\ncompare: {cases} cases, {answers} answers, 1 differs, seed {seed}");
+        return ExitCode::FAILURE;
+    }
+    if let Err(Stop::Lacks(lacking)) = judged {
+        println!("compare: no case has {lacking}, seed {seed}");
         return ExitCode::FAILURE;
     }
     println!("compare: {cases} cases, {answers} answers, 0 differ, seed {seed}");

@@ -39,27 +39,27 @@ pub fn of_every_feature(judge: &mut Judge, random: &mut Random, counts: &Counts)
 
 pub fn small(judge: &mut Judge, random: &mut Random, feature: Feature) -> Judged {
     let size = generate::random_size(random, 2, every_side::MOST_NODES, feature);
-    let through = judge.both_once_in(2);
+    let through = judge.all_once_in(2);
     of_feature(judge, random, size, feature, through)
 }
 
 pub fn middle(judge: &mut Judge, random: &mut Random, feature: Feature) -> Judged {
     let size = generate::random_size(random, MIDDLE_NODES, LARGE_NODES - 1, feature);
-    of_feature(judge, random, size, feature, Through::Both)
+    of_feature(judge, random, size, feature, Through::All)
 }
 
 /// A network of many nodes; of few trees, since the reference takes long for many.
 pub fn large(judge: &mut Judge, random: &mut Random, feature: Feature) -> Judged {
     let mut size = generate::random_size(random, LARGE_NODES, MOST_NODES, feature);
     size.trees = size.trees.min(3);
-    of_feature(judge, random, size, feature, Through::Both)
+    of_feature(judge, random, size, feature, Through::All)
 }
 
 /// Networks with as many nodes, links and trees as there may be, or as few, in many combinations.
 pub fn at_the_limits(judge: &mut Judge, random: &mut Random) -> Judged {
     judge.kind("networks: at the limits of size");
     for (size, feature) in limits() {
-        of_feature(judge, random, size, feature, Through::Both)?;
+        of_feature(judge, random, size, feature, Through::All)?;
     }
     Ok(())
 }
@@ -88,22 +88,24 @@ fn limits() -> Vec<(Size, Feature)> {
 
 fn of_feature(judge: &mut Judge, random: &mut Random, size: Size, feature: Feature, through: Through) -> Judged {
     let network = generate::network(random, size, feature);
-    judged(judge, random, &network, through)
+    judged(judge, random, network, through)
 }
 
-/// The network's sheet, not always the shortest, has the reference's answer.
-pub fn judged(judge: &mut Judge, random: &mut Random, network: &Network, through: Through) -> Judged {
-    let shortest = sheet::write(network);
+/// The network's sheet, with trunk numbers or without and not always the shortest, has the reference's answer.
+pub fn judged(judge: &mut Judge, random: &mut Random, network: Network, through: Through) -> Judged {
+    let contents = generate::contents(random, network);
+    let shortest = sheet::write_contents(&contents);
     let sheet = match random.once_in(3) {
-        true => sheet::write_with_maps(network, &generate::longer_maps(random, &network.links)),
+        true => sheet::write_with_maps(&contents, &generate::longer_maps(random, &contents)),
         false => shortest.clone(),
     };
     judge.longer += u64::from(sheet != shortest);
-    let answer = cuts::answer(network);
-    let read = sheet::read(&sheet);
-    if read.as_ref() != Ok(network) {
-        return judge.differs(&sheet, format!("{network:?}\n"), format!("{read:?}, by the reference's reader\n"));
+    let read = sheet::read_contents(&sheet);
+    if read.as_ref() != Ok(&contents) {
+        return judge.differs(&sheet, format!("{contents:?}\n"), format!("{read:?}, by the reference's reader\n"));
     }
+    let network = &contents.network;
+    let answer = cuts::answer(network);
     if network.nodes <= every_side::MOST_NODES {
         by_every_side(judge, network, &sheet, &answer)?;
     }

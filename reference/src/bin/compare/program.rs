@@ -1,4 +1,4 @@
-//! Runs of the report program.
+//! Runs of the report program and the cable crew's.
 
 use std::io::{self, ErrorKind, Read, Write};
 use std::path::Path;
@@ -6,7 +6,7 @@ use std::process::{Child, ChildStdin, Command, Stdio};
 use std::thread;
 use std::time::{Duration, Instant};
 
-/// How many bytes of its input the program reads.
+/// How many bytes of its input a program reads.
 pub const MOST_INPUT: usize = 32_768;
 
 /// So long that the program has likely taken what was sent and waits for more: a read is likely, not certain, to come short.
@@ -17,7 +17,7 @@ const TIME_LIMIT: Duration = Duration::from_secs(60);
 /// The time between two looks whether the program has ended.
 const LOOK_AGAIN: Duration = Duration::from_micros(100);
 
-/// What a run of the program leaves.
+/// What a run of a program leaves.
 #[derive(PartialEq, Eq)]
 pub struct Run {
     pub output: Vec<u8>,
@@ -54,7 +54,7 @@ impl Run {
     }
 }
 
-/// Runs the program with the input, sent with a pause at each of the rising offsets.
+/// Runs a program with the input, sent with a pause at each of the rising offsets.
 pub fn run(program: &Path, input: &[u8], pauses: &[usize]) -> io::Result<Run> {
     let mut command = Command::new(program);
     let piped = command.stdin(Stdio::piped()).stdout(Stdio::piped()).stderr(Stdio::piped());

@@ -52,29 +52,29 @@ pub fn of_every_kind(judge: &mut Judge, random: &mut Random, small_networks: usi
         }
         for size in SIZES {
             let weights = random.pick(&WEIGHTS);
-            of_kind(judge, random, kind, size, weights, Through::Both)?;
+            of_kind(judge, random, kind, size, weights, Through::All)?;
         }
         for weights in WEIGHTS {
             let size = few_links(random);
-            of_kind(judge, random, kind, size, weights, Through::Both)?;
+            of_kind(judge, random, kind, size, weights, Through::All)?;
         }
-        of_kind(judge, random, kind, HEAVIEST, (MOST_WEIGHT, MOST_WEIGHT), Through::Both)?;
+        of_kind(judge, random, kind, HEAVIEST, (MOST_WEIGHT, MOST_WEIGHT), Through::All)?;
     }
-    of_kind(judge, random, &SHAPES, LONGEST, (1, 2), Through::Both)
+    of_kind(judge, random, &SHAPES, LONGEST, (1, 2), Through::All)
 }
 
 pub fn small(judge: &mut Judge, random: &mut Random, kind: &[Shape]) -> Judged {
     let nodes = random.between(2, every_side::MOST_NODES);
     let links = random.between(1, 4) * (nodes - 1) + random.below(nodes);
     let size = Size::new(nodes, links, random.between(1, 6));
-    let (weights, through) = (random.pick(&WEIGHTS), judge.both_once_in(2));
+    let (weights, through) = (random.pick(&WEIGHTS), judge.all_once_in(2));
     of_kind(judge, random, kind, size, weights, through)
 }
 
 /// As many nodes as there may be and few links: many sides weigh the same.
 pub fn large(judge: &mut Judge, random: &mut Random, kind: &[Shape]) -> Judged {
     let (size, weights) = (few_links(random), random.pick(&WEIGHTS));
-    of_kind(judge, random, kind, size, weights, Through::Both)
+    of_kind(judge, random, kind, size, weights, Through::All)
 }
 
 fn few_links(random: &mut Random) -> Size {
@@ -98,5 +98,5 @@ fn of_kind(
         weights,
     };
     let network = shapes::network(random, size, &form);
-    networks::judged(judge, random, &network, through)
+    networks::judged(judge, random, network, through)
 }

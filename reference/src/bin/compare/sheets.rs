@@ -3,7 +3,7 @@
 use reference::faults::{self, Base, Fault};
 use reference::generate::{self, Feature, Size};
 use reference::random::Random;
-use reference::report::{self, Outcome};
+use reference::report;
 use reference::sheet::{self, Refusal, MOST_LINKS, MOST_TREES};
 use reference::{documented, every_side};
 
@@ -13,11 +13,13 @@ use crate::judge::{Judge, Judged, Through};
 pub fn documented(judge: &mut Judge) -> Judged {
     judge.kind("the documents' networks");
     for case in documented::all() {
-        let outcome = report::outcome(&case.sheet);
-        let lines = report::lines(&outcome);
-        let judged = match lines == case.lines {
-            true => judge.expect(&case.sheet, &outcome, Through::Both),
-            false => judge.differs(&case.sheet, case.lines, lines + "by the reference\n"),
+        let reading = sheet::read_contents(&case.sheet);
+        let outcome = report::outcome_of(&reading);
+        let lines = report::lines(&outcome) + &report::trunk_lines(&reading);
+        let expected = case.lines + &case.trunk_lines;
+        let judged = match lines == expected {
+            true => judge.expect(&case.sheet, &outcome, Through::All),
+            false => judge.differs(&case.sheet, expected, lines + "by the reference\n"),
         };
         judged.map_err(|stop| stop.of_case(&case.name))?;
     }
@@ -41,27 +43,21 @@ pub fn area_lengths(judge: &mut Judge) -> Judged {
     Ok(())
 }
 
-/// A small random network's sheet, not always the shortest.
+/// A small random network's sheet, with trunk numbers or without and not always the shortest.
 pub fn random_base(random: &mut Random) -> Base {
     let size = generate::random_size(random, 2, every_side::MOST_NODES, Feature::Any);
     let network = generate::network(random, size, Feature::Any);
+    let contents = generate::contents(random, network);
     let maps = match random.once_in(2) {
-        true => generate::longer_maps(random, &network.links),
-        false => sheet::shortest_maps(&network.links),
+        true => generate::longer_maps(random, &contents),
+        false => sheet::shortest_maps(&contents),
     };
-    Base::new(network, maps)
+    Base::new(contents, maps)
 }
 
 /// The faults' sheet is refused as the faults' definitions say, by the reference and by the monitor.
 pub fn refused(judge: &mut Judge, base: &Base, faults: &[&Fault], refusal: Refusal, through: Through) -> Judged {
-    let sheet = faults::damaged(base, faults);
-    let expected: Outcome = Err(refusal);
-    let read = report::outcome(&sheet);
-    if read != expected {
-        let got = format!("{read:?}, by the reference\n");
-        return judge.differs(&sheet, format!("{refusal:?}\n"), got);
-    }
-    judge.expect(&sheet, &expected, through)
+    judge.expect(&faults::damaged(base, faults), &Err(refusal), through)
 }
 
 /// Every single fault of the fixed bases and of random ones, sheets that only look like one, and a fault of each kind in every
@@ -72,17 +68,17 @@ pub fn single_faults(judge: &mut Judge, random: &mut Random, random_bases: usize
     bases.extend((0..random_bases).map(|_| random_base(random)));
     for base in &bases {
         for fault in faults::singles(base) {
-            let through = judge.both_once_in(2);
+            let through = judge.all_once_in(2);
             refused(judge, base, &[&fault], fault.refusal, through)?;
         }
         for sheet in faults::harmless(base) {
-            judge.sheet(&sheet, Through::Both)?;
+            judge.sheet(&sheet, Through::All)?;
         }
     }
     let large = Base::with_all_fields(random, faults::LARGE_SIZE);
-    judge.sheet(&large.sheet, Through::Both)?;
+    judge.sheet(&large.sheet, Through::All)?;
     for fault in faults::of_every_record(random, &large) {
-        let through = judge.both_once_in(10);
+        let through = judge.all_once_in(10);
         refused(judge, &large, &[&fault], fault.refusal, through)?;
     }
     Ok(())
@@ -95,7 +91,7 @@ pub fn two_faults(judge: &mut Judge, random: &mut Random, random_bases: usize) -
         let faults = faults::singles(base);
         for (place, one) in faults.iter().enumerate() {
             for other in &faults[place + 1..] {
-                let through = judge.both_once_in(60);
+                let through = judge.all_once_in(60);
                 pair_of_faults(judge, base, one, other, through)?;
             }
         }
@@ -106,7 +102,7 @@ pub fn two_faults(judge: &mut Judge, random: &mut Random, random_bases: usize) -
         for _ in 0..500 {
             let one = &faults[random.below(faults.len())];
             let other = &faults[random.below(faults.len())];
-            let through = judge.both_once_in(50);
+            let through = judge.all_once_in(50);
             pair_of_faults(judge, &base, one, other, through)?;
         }
     }
@@ -131,12 +127,12 @@ pub fn cut_sheets(judge: &mut Judge, random: &mut Random) -> Judged {
     judge.kind("sheets cut at every length");
     for base in faults::bases() {
         for end in 0..=base.sheet.len() {
-            judge.sheet(&base.sheet[..end], Through::Both)?;
+            judge.sheet(&base.sheet[..end], Through::All)?;
         }
     }
     let longest = longest_sheet(random, 20).sheet;
     for end in 0..=longest.len() {
-        let through = judge.both_once_in(50);
+        let through = judge.all_once_in(50);
         judge.sheet(&longest[..end], through)?;
     }
     Ok(())
@@ -150,18 +146,18 @@ pub fn changed_bytes(judge: &mut Judge, random: &mut Random, changes: usize) -> 
         for at in 0..sheet.len() {
             for value in 0..=u8::MAX {
                 sheet[at] = value;
-                let through = judge.both_once_in(60);
+                let through = judge.all_once_in(60);
                 judge.sheet(&sheet, through)?;
             }
             sheet[at] = base.sheet[at];
         }
     }
-    let size = Size::new(30, 70, 3);
-    let middle = sheet::write(&generate::network(random, size, Feature::Any));
+    let network = generate::network(random, Size::new(30, 70, 3), Feature::Any);
+    let middle = sheet::write_contents(&generate::with_trunks(random, network));
     let longest = longest_sheet(random, 8).sheet;
     for _ in 0..changes {
         for base in [&middle, &longest] {
-            let through = judge.both_once_in(5);
+            let through = judge.all_once_in(5);
             judge.sheet(&changed(random, base), through)?;
         }
     }

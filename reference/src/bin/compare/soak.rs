@@ -52,7 +52,7 @@ fn single_fault(judge: &mut Judge, random: &mut Random) -> Judged {
     let base = sheets::random_base(random);
     let faults = faults::singles(&base);
     let fault = &faults[random.below(faults.len())];
-    sheets::refused(judge, &base, &[fault], fault.refusal, Through::Both)
+    sheets::refused(judge, &base, &[fault], fault.refusal, Through::All)
 }
 
 fn two_faults(judge: &mut Judge, random: &mut Random) -> Judged {
@@ -63,7 +63,7 @@ fn two_faults(judge: &mut Judge, random: &mut Random) -> Judged {
         let one = &faults[random.below(faults.len())];
         let other = &faults[random.below(faults.len())];
         if let Some(refusal) = faults::first_refusal(one, other) {
-            return sheets::refused(judge, &base, &[one, other], refusal, Through::Both);
+            return sheets::refused(judge, &base, &[one, other], refusal, Through::All);
         }
     }
 }
@@ -72,11 +72,11 @@ fn cut(judge: &mut Judge, random: &mut Random) -> Judged {
     judge.kind("sheets cut");
     let sheet = sheets::random_base(random).sheet;
     let end = random.below(sheet.len());
-    judge.sheet(&sheet[..end], Through::Both)
+    judge.sheet(&sheet[..end], Through::All)
 }
 
 fn changed_byte(judge: &mut Judge, random: &mut Random) -> Judged {
     judge.kind("single bytes changed");
     let sheet = sheets::random_base(random).sheet;
-    judge.sheet(&sheets::changed(random, &sheet), Through::Both)
+    judge.sheet(&sheets::changed(random, &sheet), Through::All)
 }
