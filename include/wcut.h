@@ -3,7 +3,7 @@
  * listed spanning tree, and whether it is provably the lightest cut of the whole network. docs/ENTRY.md has the layouts and the cost.
  *
  * Link with libmonitor.a, which is for x86-64 and its System V calling convention; it needs memset and memcpy. The entry keeps no state,
- * allocates nothing, and takes 52,592 bytes of stack.
+ * allocates nothing, and takes 44,928 bytes of stack.
  */
 #ifndef WCUT_H
 #define WCUT_H
@@ -18,7 +18,7 @@ extern "C" {
 /* Sizes. */
 #define WCUT_SIDE_BYTES 32       /* the side area: node k is bit k % 8 of byte k / 8 */
 #define WCUT_REPORT_BYTES 24     /* the report area, laid out as below */
-#define WCUT_LONGEST_SHEET 26757 /* a sheet of more bytes is refused */
+#define WCUT_LONGEST_SHEET 30853 /* a sheet of more bytes is refused */
 #define WCUT_MOST_NODES 256
 #define WCUT_MOST_LINKS 2048
 #define WCUT_MOST_TREES 32
@@ -45,8 +45,8 @@ extern "C" {
 #define WCUT_LINK_COUNT 5    /* the link count is below the node count less 1, or above 2,048 */
 #define WCUT_TREE_COUNT 6    /* the tree count is 0 or above 32 */
 #define WCUT_NO_MAP_BYTE 7   /* no map byte is left for a link */
-#define WCUT_MAP_BYTE 8      /* a map byte exceeds 7, or link 0's map byte is not 7 */
-#define WCUT_CUT_OFF_FIELD 9 /* the sheet ends before the last byte of a field whose bit stands */
+#define WCUT_MAP_BYTE 8      /* a map byte exceeds 15, or link 0's is neither 7 nor 15; units already sold take none above 7 */
+#define WCUT_CUT_OFF_FIELD 9 /* the sheet ends before the last byte of a field whose bit stands, trunk numbers included */
 #define WCUT_LINK_ENDS 10    /* an end is not below the node count, or both ends are equal */
 #define WCUT_LINK_WEIGHT 11  /* never returned: every 4-byte weight is allowed; units already sold refuse one above 1,000,000 */
 #define WCUT_CUT_OFF_TREE 12 /* the sheet ends inside or before a tree record */
