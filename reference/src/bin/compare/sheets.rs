@@ -68,7 +68,7 @@ pub fn single_faults(judge: &mut Judge, random: &mut Random, random_bases: usize
     bases.extend((0..random_bases).map(|_| random_base(random)));
     for base in &bases {
         for fault in faults::singles(base) {
-            let through = judge.all_once_in(2);
+            let through = judge.all_once_in(3);
             refused(judge, base, &[&fault], fault.refusal, through)?;
         }
         for sheet in faults::harmless(base) {
@@ -91,7 +91,7 @@ pub fn two_faults(judge: &mut Judge, random: &mut Random, random_bases: usize) -
         let faults = faults::singles(base);
         for (place, one) in faults.iter().enumerate() {
             for other in &faults[place + 1..] {
-                let through = judge.all_once_in(60);
+                let through = judge.all_once_in(100);
                 pair_of_faults(judge, base, one, other, through)?;
             }
         }
@@ -102,7 +102,7 @@ pub fn two_faults(judge: &mut Judge, random: &mut Random, random_bases: usize) -
         for _ in 0..500 {
             let one = &faults[random.below(faults.len())];
             let other = &faults[random.below(faults.len())];
-            let through = judge.all_once_in(50);
+            let through = judge.all_once_in(100);
             pair_of_faults(judge, &base, one, other, through)?;
         }
     }
@@ -146,7 +146,7 @@ pub fn changed_bytes(judge: &mut Judge, random: &mut Random, changes: usize) -> 
         for at in 0..sheet.len() {
             for value in 0..=u8::MAX {
                 sheet[at] = value;
-                let through = judge.all_once_in(60);
+                let through = judge.all_once_in(100);
                 judge.sheet(&sheet, through)?;
             }
             sheet[at] = base.sheet[at];
