@@ -14,7 +14,7 @@ use Rattle.sheet.specs.Plain.{whenRead, comesTo, linkComesTo}
 
 module _ {A : Type 0} (test : List A → Bytes → Bool) (one two : List A → Bytes → Reading A)
     (same : (got : List A) (bs : Bytes) → test got bs ≡ false → two got bs ≡ one got bs) where
-  pub comesTo-same : (k : ℕ) (got : List A) (bs : Bytes) → comesTo test two k got bs ≡ comesTo test one k got bs
+  comesTo-same : (k : ℕ) (got : List A) (bs : Bytes) → comesTo test two k got bs ≡ comesTo test one k got bs
   unfolding comesTo
   comesTo-same zero got bs = refl
   comesTo-same (suc k) got bs = step (truth (test got bs)) (λ x rest. comesTo-same k (got ++ x ∷ []) rest)
@@ -29,7 +29,7 @@ module _ {A : Type 0} (test : List A → Bytes → Bool) (one two : List A → B
           go (accepted x rest) = h x rest
           go (refused n) = refl
 
-  pub records-same : (k : ℕ) (got : List A) (bs : Bytes) → comesTo test one k got bs ≡ false → records two k got bs ≡ records one k got bs
+  records-same : (k : ℕ) (got : List A) (bs : Bytes) → comesTo test one k got bs ≡ false → records two k got bs ≡ records one k got bs
   unfolding comesTo records
   records-same zero got bs h = refl
   records-same (suc k) got bs h =
@@ -42,7 +42,7 @@ module _ {A : Type 0} (test : List A → Bytes → Bool) (one two : List A → B
       step (accepted x rest) e g = g x rest e
       step (refused n) e g = refl
 
-pub records-stopped : {A : Type 0} (test : List A → Bytes → Bool) (one : List A → Bytes → Reading A) (n : ℕ) → ((got : List A) (bs : Bytes) → test got bs ≡ true → one got bs ≡ refused n)
+records-stopped : {A : Type 0} (test : List A → Bytes → Bool) (one : List A → Bytes → Reading A) (n : ℕ) → ((got : List A) (bs : Bytes) → test got bs ≡ true → one got bs ≡ refused n)
     → (k : ℕ) (got : List A) (bs : Bytes) → comesTo test one k got bs ≡ true → records one k got bs ≡ refused n
 unfolding comesTo records
 records-stopped test one n stop zero got bs h = clash h refl

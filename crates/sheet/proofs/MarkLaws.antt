@@ -80,7 +80,7 @@ module _ (bs : Bytes) (clear : trunkMarked bs ≡ false) where
       ap₂ (λ (cs : List Check) (n : ℕ). unless (firstFailing (cs ++ valueChecks tolerant nodes (linkIn tolerant before bs))) (accepted (linkIn tolerant before bs) (drop n bs)))
       (shapeChecks-clear start) recordLength-clear
 
-pub nextLink-clear : (nodes : ℕ) (got : List Link) (bs : Bytes) → trunkMarked bs ≡ false → nextLink trunked nodes got bs ≡ nextLink tolerant nodes got bs
+nextLink-clear : (nodes : ℕ) (got : List Link) (bs : Bytes) → trunkMarked bs ≡ false → nextLink trunked nodes got bs ≡ nextLink tolerant nodes got bs
 nextLink-clear nodes got bs e = linkRecord-clear bs e nodes (eqb (length got) 0) (getD got (length got - 1) noLink)
 
 -- ---- sheets without bit 3, and with it

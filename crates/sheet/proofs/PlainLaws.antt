@@ -221,7 +221,7 @@ module _ (nodes : ℕ) where
       step (inl e) g = cut-record k got bs e
       step (inr e) g = subst (λ (z : Reading Link). Never 9 (andThen z next)) (sym (nextLink-plain nodes k got bs e)) (go (nextLink trunked nodes got bs) refl (rw e at h) g)
 
-pub plain-cut : (sheet : Bytes) → cutOff sheet ≡ true → Never 9 (decode tolerant (plain sheet))
+plain-cut : (sheet : Bytes) → cutOff sheet ≡ true → Never 9 (decode tolerant (plain sheet))
 unfolding decode decodeBody linkComesTo
 plain-cut sheet h = step (decLe 5 (length sheet))
   where
