@@ -67,9 +67,9 @@ fn fixed_share(judge: &mut Judge, random: &mut Random) -> Judged {
     sheets::changed_bytes(judge, random, 1000)?;
     inputs::long_inputs(judge, random)?;
     inputs::short_reads(judge, random)?;
-    networks::of_every_feature(judge, random, &Counts { small: 800, middle: 100, large: 8 })?;
+    networks::of_every_feature(judge, random, &Counts { small: 600, middle: 80, large: 6 })?;
     networks::at_the_limits(judge, random)?;
-    shapes::of_every_kind(judge, random, 400)?;
+    shapes::of_every_kind(judge, random, 300)?;
     judge.saw_trunks()
 }
 
