@@ -2,36 +2,27 @@
 -- refused one has no trunk numbers. Assumes nothing.
 use Prim.Native.Nat.{ℕ, _≤_}
 use mathlib.Core.Path.{_≡_, refl, sym, ap, ap₂, _∙_}
-use mathlib.Core.List.{List, [], _∷_}
+use mathlib.Core.List.{List, []}
 use native.Mathlib.Omega.{arith}
-use lib.ListN.{length, take, drop, length-append, length-drop}
-use lib.Seq.{take-at}
-use lib.Dec.{ltb}
+use lib.ListN.{length, take, drop}
+use lib.Seq.{length-take-le, length-front, take-at}
 use Rattle.cuts.specs.Network.{Network, linkCount}
 use Rattle.sheet.specs.Bytes.{Bytes, number}
-use Rattle.sheet.specs.Reading.{check, firstFailing, Reading, accepted, refused, numberOf, andThen}
-use Rattle.sheet.specs.Sheet.{Format, Counts, countsIn, countChecks, headerRecord, nextLink, decode}
+use Rattle.sheet.specs.Reading.{Reading, accepted, refused, numberOf, andThen}
+use Rattle.sheet.specs.Sheet.{Format, Counts, countsIn, decode}
 use Rattle.sheet.specs.Areas.{written}
 use Rattle.sheet.specs.Trunks.{trunksFrom, trunks}
 use Rattle.links.specs.Answers.{LinksThere}
 use Rattle.text.specs.Line.{refusedLine}
 use Rattle.crew.specs.Numbers.{TrunksRead}
 use Rattle.crew.specs.Output.{linesFrom, output}
-use Rattle.sheet.proofs.ReadingLaws.{unless-accepted, records-counted}
-use Rattle.sheet.proofs.Acceptance.{decode-parts, decode-accepted, decode-zero}
-use Rattle.sheet.proofs.Sizes.{headerRecord-rest}
+use Rattle.sheet.proofs.Acceptance.{decode-parts, links-counted, decode-accepted, decode-zero}
+use Rattle.sheet.proofs.Sizes.{headerRecord-is}
 use Rattle.sheet.proofs.TrunkLaws.{trunks-refused, trunksFrom-length, trunks-accepted}
 use Rattle.reader.proofs.SheetLaws.{header-whole}
 
-header-counts : (sheet : Bytes) (c : Counts) (rest : Bytes) → headerRecord sheet ≡ accepted c rest → countsIn sheet ≡ c
-unfolding headerRecord
-header-counts sheet c rest e = let r = unless-accepted (firstFailing (check 3 (ltb (length sheet) 5) ∷ countChecks (countsIn sheet))) _ e in cc
-
 module _ (f : Format) (sheet : Bytes) where
   module _ (net : Network) (rest : Bytes) (e : decode f sheet ≡ accepted net rest) where
-    links-counted : decode-parts f sheet net rest e .counts .links ≡ linkCount net
-    links-counted = let p = decode-parts f sheet net rest e in let c = records-counted (nextLink f (net .nodes)) (p .counts .links) [] (p .body) (p .links-read) in omega arith
-
     pub links-there : LinksThere f sheet 5 (linkCount net)
     links-there =
         let p = decode-parts f sheet net rest e in
@@ -39,7 +30,7 @@ module _ (f : Format) (sheet : Bytes) where
           nodes = net .nodes;
           links = net .links;
           rest = p .behind;
-          are-read = rw (headerRecord-rest sheet (p .counts) (p .body) (p .header-read), ← links-counted) (p .links-read);
+          are-read = rw (headerRecord-is sheet (p .counts) (p .body) (p .header-read) .1, ← links-counted f sheet net rest e) (p .links-read);
         }
 
     -- the header says how many links there are
@@ -48,7 +39,7 @@ module _ (f : Format) (sheet : Bytes) where
     header-links =
         let p = decode-parts f sheet net rest e in
         let w = header-whole sheet (p .counts) (p .body) (sym (p .header-read)) in
-        (w, ap (λ (c : Counts). c .links) (header-counts sheet (p .counts) (p .body) (p .header-read)) ∙ links-counted, decode-accepted f sheet net rest e .links-most)
+        (w, ap (λ (c : Counts). c .links) (headerRecord-is sheet (p .counts) (p .body) (p .header-read) .0) ∙ links-counted f sheet net rest e, decode-accepted f sheet net rest e .links-most)
 
   trunks-none : (n : ℕ) → decode f sheet ≡ refused n → trunks f sheet ≡ refused n
   unfolding trunks
@@ -71,12 +62,9 @@ module _ (f : Format) (sheet : Bytes) where
         step (accepted net rest) e =
             let t = trunks-accepted f sheet net rest e in
             let ts : List ℕ = trunksFrom f (linkCount net) 0 (drop 5 sheet) in
-            let a = ap length (rw t at (said .numbers-are)) in
-            let b = length-append ts (drop (length ts) numbers) in
-            let c = length-drop (length ts) numbers in
             let d = trunksFrom-length f (linkCount net) 0 (drop 5 sheet) in
             let m = decode-accepted f sheet net rest e .links-most in
-            omega arith
+            ap length (rw t at (said .numbers-are)) ∙ length-front numbers ts (length ts) (sym (length-take-le (length ts) numbers (omega arith))) ∙ l
         step (refused n) e = ap length (rw (trunks-none n e) at (said .numbers-are)) ∙ l
 
     -- where they were read, the area has as many as the header counts links, and these are printed

@@ -7,7 +7,7 @@ use native.Mathlib.Nat.{sub-zero}
 use native.Mathlib.Omega.{arith}
 use native.Mathlib.Numerals.{add-one}
 use lib.ListN.{length, getD, set, drop, length-append, length-drop}
-use lib.Seq.{set-at, drop-drop, drop-cons}
+use lib.Seq.{length-take-le, length-front, set-at, drop-drop, drop-cons}
 use lib.Dec.{eqb}
 use Rattle.cuts.specs.Network.{Link, noLink}
 use Rattle.sheet.specs.Bytes.{Bytes, ByteSized, number}
@@ -55,13 +55,10 @@ trunks-start f s from count old there room = record {
 module _ {f : Format} {s : Bytes} {from count : ℕ} {old numbers : List ℕ} {at trunk k : ℕ} (w : TrunksRun f s from count old numbers at trunk k) where
   pub numbers-length : length numbers ≡ length old
   numbers-length =
-      let a = ap length (w .held) in
-      let b = length-append (w .done) (drop (length (w .done)) old) in
-      let c = length-drop (length (w .done)) old in
       let d = w .sized in
       let e = w .within in
       let g = w .room in
-      omega arith
+      ap length (w .held) ∙ length-front old (w .done) (length (w .done)) (sym (length-take-le (length (w .done)) old (omega arith)))
 
   module _ (more : k < count) where
     -- the next record is read, and so are those behind it

@@ -164,6 +164,10 @@ module _ (f : Format) (sheet : Bytes) (net : Network) (rest : Bytes) (e : decode
         none-left = passed 16 cs refl (end .0);
       }))
 
+  -- as many links are read as the header counts
+  pub links-counted : decode-parts .counts .links ≡ linkCount net
+  links-counted = let p = decode-parts in let c = records-counted (nextLink f (net .nodes)) (p .counts .links) [] (p .body) (p .links-read) in omega arith
+
   pub decode-accepted : Accepted f net
   decode-accepted =
       let p = decode-parts in

@@ -69,9 +69,9 @@ linkRecord-there f nodes start before bs l rest e =
     let cs : List Check = shapeChecks f start bs ++ valueChecks f nodes (linkIn f before bs) in
     ltb-false (length bs) (recordLength f bs) (passed 9 cs refl (unless-accepted (firstFailing cs) _ e .0))
 
-pub headerRecord-rest : (sheet : Bytes) (c : Counts) (rest : Bytes) → headerRecord sheet ≡ accepted c rest → drop 5 sheet ≡ rest
+pub headerRecord-is : (sheet : Bytes) (c : Counts) (rest : Bytes) → headerRecord sheet ≡ accepted c rest → (countsIn sheet ≡ c) × (drop 5 sheet ≡ rest)
 unfolding headerRecord
-headerRecord-rest sheet c rest e = let r = unless-accepted (firstFailing (check 3 (ltb (length sheet) 5) ∷ countChecks (countsIn sheet))) _ e in cc
+headerRecord-is sheet c rest e = let r = unless-accepted (firstFailing (check 3 (ltb (length sheet) 5) ∷ countChecks (countsIn sheet))) _ e in (cc, cc)
 
 -- ---- links and trees, one after another
 
@@ -99,7 +99,7 @@ tree-shared net got bs t rest p e =
 
 -- where the first link starts
 start : (sheet : Bytes) → ByteSized sheet → (c : Counts) (bs : Bytes) → headerRecord sheet ≡ accepted c bs → Weighed [] bs
-start sheet h c bs e = (all-none noLink (λ l. l .weight < 2 ^ 32), subst ByteSized (headerRecord-rest sheet c bs e) (sized-drop 5 sheet h))
+start sheet h c bs e = (all-none noLink (λ l. l .weight < 2 ^ 32), subst ByteSized (headerRecord-is sheet c bs e .1) (sized-drop 5 sheet h))
 
 module _ (f : Format) (four : getD (f .widths) 2 0 ≡ 4) where
   weight-below : (before : Link) (bs : Bytes) → before .weight < 2 ^ 32 → ByteSized bs → linkIn f before bs .weight < 2 ^ 32

@@ -4,7 +4,6 @@ use Prim.Native.Nat.{ℕ, zero, suc, _-_}
 use mathlib.Core.Path.{_≡_, refl, sym, ap, ap₂, _∙_}
 use mathlib.Core.Bool.{false}
 use mathlib.Core.List.{List, [], _∷_, _++_}
-use native.Mathlib.Omega.{arith}
 use lib.ListN.{length, getD, drop, replicate}
 use lib.Dec.{eqb}
 use Rattle.cuts.specs.Network.{Link, Network, noLink, linkCount}
@@ -14,9 +13,9 @@ use Rattle.sheet.specs.Reading.{Reading, accepted, refused, numberOf, an
 use Rattle.sheet.specs.Sheet.{Format, Counts, recordLength, field, nextLink, decode}
 use Rattle.sheet.specs.Trunks.{trunksFrom, trunks}
 use Rattle.sheet.specs.Plain.{trunkMarked, whenRead, comesTo, linkComesTo, marked}
-use Rattle.sheet.proofs.ReadingLaws.{andThen-accepted, records-counted}
-use Rattle.sheet.proofs.Acceptance.{decode-parts}
-use Rattle.sheet.proofs.Sizes.{linkRecord-is, headerRecord-rest}
+use Rattle.sheet.proofs.ReadingLaws.{andThen-accepted}
+use Rattle.sheet.proofs.Acceptance.{decode-parts, links-counted}
+use Rattle.sheet.proofs.Sizes.{linkRecord-is, headerRecord-is}
 
 module _ (f : Format) where
   -- the crew's reader refuses what the panel reader refuses, by the same number, and nothing else
@@ -62,9 +61,9 @@ module _ (f : Format) where
   unfolding linkComesTo
   trunks-unmarked sheet net rest h e =
       let p = decode-parts f sheet net rest e in
-      let count : linkCount net ≡ p .counts .links = let c = records-counted (nextLink f (net .nodes)) (p .counts .links) [] (p .body) (p .links-read) in omega arith in
+      let count = links-counted f sheet net rest e in
       let clear = sym (ap (λ (z : Reading Counts). whenRead z (λ c bs. comesTo (λ got bs. trunkMarked bs) (nextLink f (c .nodes)) (c .links) [] bs)) (p .header-read)) ∙ h in
       trunks-accepted sheet net rest e
       ∙ ap (λ (ts : List ℕ). accepted ts rest)
-      (ap₂ (λ (m : ℕ) (bs : Bytes). trunksFrom f m 0 bs) count (headerRecord-rest sheet (p .counts) (p .body) (p .header-read))
-      ∙ trunksFrom-clear (net .nodes) (p .counts .links) 0 [] (p .body) (rw (p .nodes-are) at clear) (p .links-read) ∙ ap (λ (m : ℕ). replicate m 0) (sym count))
+      (ap₂ (λ (m : ℕ) (bs : Bytes). trunksFrom f m 0 bs) (sym count) (headerRecord-is sheet (p .counts) (p .body) (p .header-read) .1)
+      ∙ trunksFrom-clear (net .nodes) (p .counts .links) 0 [] (p .body) (rw (p .nodes-are) at clear) (p .links-read) ∙ ap (λ (m : ℕ). replicate m 0) count)
