@@ -7,3 +7,6 @@ pub mod ShiftLaws
 pub mod PlaceLaws
 pub mod NestLaws
 pub mod KeptLaws
+pub mod WithinLaws
+pub mod Laminar
+pub mod StopLaws

@@ -14,8 +14,9 @@ use Rattle.cuts.specs.Limits.{Light}
 use Rattle.cuts.proofs.FlagLaws.{clash, truth, xor-comm}
 use Rattle.cuts.proofs.SumLaws.{sum-congr, sum-mono, sum-add, sum-const}
 use Rattle.places.specs.Kept.{within}
+use Rattle.places.proofs.WithinLaws.{within-is, within-join}
 use Rattle.rows.specs.Rows.{sumOver, weightAt, firstPlace, secondPlace, tally, degree, crossing}
-use Rattle.rows.proofs.OverLaws.{within-is, within-join, over-congr, over-add, over-only, over-swap, over-pick}
+use Rattle.rows.proofs.OverLaws.{over-congr, over-add, over-only, over-swap, over-pick}
 
 at-most : (b : Bool) (w : ℕ) → only b w ≤ w
 at-most true w = omega arith

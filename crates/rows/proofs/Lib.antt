@@ -1,6 +1,4 @@
 pub mod OverLaws
-pub mod Laminar
-pub mod StopLaws
 pub mod CrossLaws
 pub mod PairLaws
 pub mod RunLaws

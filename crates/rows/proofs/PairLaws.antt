@@ -18,9 +18,10 @@ use Rattle.cuts.proofs.SumLaws.{sum-congr}
 use Rattle.cuts.proofs.CutLaws.{crosses-is, sharedWeight-most}
 use Rattle.trees.specs.Order.{entry}
 use Rattle.places.specs.Kept.{within, Kept}
+use Rattle.places.proofs.WithinLaws.{within-in, within-behind, within-is}
+use Rattle.places.proofs.StopLaws.{stops-nest}
 use Rattle.rows.specs.Rows.{sumOver, weightAt, firstPlace, secondPlace, crossing, paired}
-use Rattle.rows.proofs.OverLaws.{within-in, within-behind, within-is, over-join}
-use Rattle.rows.proofs.StopLaws.{stops-nest}
+use Rattle.rows.proofs.OverLaws.{over-join}
 use Rattle.rows.proofs.CrossLaws.{crossed, crossing-sum}
 
 -- ---- one link and its ends

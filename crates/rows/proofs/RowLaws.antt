@@ -15,8 +15,8 @@ use Rattle.cuts.specs.Limits.{Light}
 use Rattle.trees.specs.Order.{entry}
 use Rattle.trees.specs.Growing.{Laid}
 use Rattle.places.specs.Kept.{Kept}
+use Rattle.places.proofs.StopLaws.{stops-nest}
 use Rattle.rows.specs.Rows.{tally, paired, talliesIn, singlesIn, sumsIn, Added, Tallied, Summed, Row}
-use Rattle.rows.proofs.StopLaws.{stops-nest}
 use Rattle.rows.proofs.CrossLaws.{tally-join, tally-none, tally-small, crossing-small}
 use Rattle.rows.proofs.PairLaws.{single-sum, pair-sum, pair-room}
 use Rattle.rows.proofs.WrapLaws.{wrap-pair}

@@ -21,8 +21,9 @@ use Rattle.growth.specs.ByNode.{touches, far, ByNode, listed}
 use Rattle.growth.proofs.EndsLaws.{linksAt-of, run-mem}
 use Rattle.growth.proofs.RunLaws.{run-sum}
 use Rattle.places.specs.Kept.{within, Kept}
+use Rattle.places.proofs.WithinLaws.{within-in, within-is}
 use Rattle.rows.specs.Rows.{sumOver, weightAt, firstPlace, secondPlace, tally, Loopless, AllByNode}
-use Rattle.rows.proofs.OverLaws.{within-in, within-is, over-shift}
+use Rattle.rows.proofs.OverLaws.{over-shift}
 
 -- what link k gives to place y from its end at x, as the arrays have it
 abbrev pub gives : List ℕ → List ℕ → List ℕ → List ℕ → ℕ → ℕ → ℕ → ℕ

@@ -8,9 +8,9 @@ use native.Mathlib.Omega.{arith}
 use Rattle.cuts.specs.Network.{Tree, Network, flag}
 use Rattle.cuts.specs.Tree.{below}
 use Rattle.trees.specs.Order.{entry}
 use Rattle.places.specs.Kept.{within, Kept}
-use Rattle.rows.proofs.OverLaws.{within-in, within-before, within-behind}
-use Rattle.rows.proofs.Laminar.{below-laminar}
+use Rattle.places.proofs.WithinLaws.{within-in, within-before, within-behind}
+use Rattle.places.proofs.Laminar.{below-laminar}
 
 module _ {net : Network} {t : Tree} {place node stops links : List ℕ} (w : Kept net t place node stops links) where
   below-at : (u : ℕ) → 0 < u → u < net .nodes → (p : ℕ) → p < net .nodes → flag (below net t (entry links u)) (entry node p) ≡ within u (entry stops u) p
