@@ -3,31 +3,25 @@ use Prim.Native.Nat.{ℕ}
 use mathlib.Core.Path.{_≡_, refl, sym}
 use mathlib.Core.List.{List}
 use lib.ListN.{drop}
-use Rattle.cuts.specs.Sums.{countTo}
-use Rattle.cuts.specs.Network.{flag}
-use Rattle.cuts.specs.Bound.{Counting, counted, floor}
-use Rattle.cuts.specs.Answer.{reported, answer, verdictOf}
+use Rattle.cuts.specs.Bound.{counted, floor}
+use Rattle.cuts.specs.Answer.{Rules, reported, answer, verdictOf}
 use Rattle.sheet.specs.Bytes.{Bytes}
 use Rattle.sheet.specs.Sheet.{Counts, treeIn}
 use Rattle.reader.specs.Answers.{treesFrom, networkAt}
 use Rattle.choice.specs.Choice.{Says}
 use Rattle.choice.specs.declared.Found.{Found}
 
-module _ (r : Counting) (s : Bytes) (ends : List (List ℕ)) (ws : List ℕ) (c : Counts) (at : ℕ) where
+module _ (r : Rules) (s : Bytes) (ends : List (List ℕ)) (ws : List ℕ) (c : Counts) (at : ℕ) where
   trees-held : treesFrom (networkAt s ends ws c at) (c .trees) (drop at s) ≡ networkAt s ends ws c at .trees
   unfolding treesFrom treeIn
   trees-held = refl
 
-  pub count-is : answer r (networkAt s ends ws c at) .count ≡ countTo (c .nodes) (flag (answer r (networkAt s ends ws c at) .best .side))
-  unfolding answer
-  count-is = refl
-
-  module _ {found : Found} (says : Says found (reported (networkAt s ends ws c at))) where
+  module _ {found : Found} (says : Says found (reported (r .rank) (networkAt s ends ws c at))) where
     pub says-best : Says found (answer r (networkAt s ends ws c at) .best)
     unfolding answer
     says-best = says
 
-    module _ {f : ℕ} (bound : f ≡ floor (counted r (networkAt s ends ws c at) (treesFrom (networkAt s ends ws c at) (c .trees) (drop at s))) (found .weight)) where
+    module _ {f : ℕ} (bound : f ≡ floor (counted (r .counting) (networkAt s ends ws c at) (treesFrom (networkAt s ends ws c at) (c .trees) (drop at s))) (found .weight)) where
       pub floor-is : answer r (networkAt s ends ws c at) .floor ≡ f
       unfolding answer
       floor-is = sym (rw (trees-held, says .weight) at bound)

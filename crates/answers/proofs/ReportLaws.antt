@@ -12,10 +12,10 @@ use Rattle.choice.specs.Choice.{Says, chosen}
 use Rattle.choice.specs.declared.Found.{Found}
 
 module _ (found : Found) (a : Answer) (says : Says found (a .best)) where
-  pub report-fields : (g : Format) (v n s f : ℕ) → a .verdict ≡ v → a .count ≡ n → s ≡ secondLink (chosen (found .first) (found .second)) → a .floor ≡ f
-      → fieldBytes (reportWidths g) (v ∷ found .tree ∷ n ∷ found .first ∷ s ∷ found .weight ∷ f ∷ []) ≡ reportBytes g a
+  pub report-fields : (g : Format) (v s f : ℕ) → a .verdict ≡ v → s ≡ secondLink (chosen (found .first) (found .second)) → a .floor ≡ f
+      → fieldBytes (reportWidths g) (v ∷ found .tree ∷ found .count ∷ found .first ∷ s ∷ found .weight ∷ f ∷ []) ≡ reportBytes g a
   unfolding reportBytes
-  report-fields g v n s f verdict count second floor =
+  report-fields g v s f verdict second floor =
       let first : found .first ≡ firstLink (a .best .handle) = sym (firstLink-cond (eqb (found .first) (found .second)) (found .first) (found .second)) ∙ ap firstLink (says .handle) in
       let other : s ≡ secondLink (a .best .handle) = second ∙ ap secondLink (says .handle) in
-      rw (← verdict, ← count, ← floor, says .tree, first, other, says .weight)
+      rw (← verdict, ← floor, says .tree, says .count, first, other, says .weight)

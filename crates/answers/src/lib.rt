@@ -1,7 +1,6 @@
 // Answers a sheet that was read: searches its trees, works out the floor, and writes both areas.
 use areas::NO_SECOND;
 use areas::Report;
-use areas::count_marked;
 use areas::write_report;
 use areas::write_side;
 use choice::Found;
@@ -13,8 +12,6 @@ use survey::search_trees;
 ghost use mathlib.Core.Path.{_≡_};
 ghost use Prim.Native.Nat.{_+_, _*_, _≤_};
 ghost use lib.ListN.{length};
-ghost use Rattle.cuts.specs.Sums.{countTo};
-ghost use Rattle.cuts.specs.Network.{flag};
 ghost use Rattle.cuts.specs.Answer.{Answer, verdictOf};
 ghost use Rattle.trees.specs.Growing.{EndArrays};
 ghost use Rattle.trees.specs.Marks.{marks};
@@ -32,25 +29,17 @@ fn second_link(first: u16, second: u16) -> u16
 }
 
 // Writes both areas: the side of the cut found, from its marks, and the report.
-fn write_areas(
-    side: &mut [u8],
-    report: &mut [u8],
-    cut: &[u8],
-    nodes: usize,
-    found: Found,
-    floor: u64,
-)
-    requires { ⌜ (32 ≤ length (now side)) × (reportLength current ≤ length (now report)) × (length (now cut) ≡ 256) × (nodes ≤ 256) ⌝ }
-    ensures { λ _. ⌜ ((a : Answer) → Says found (a .best) → now (cut .entry) ≡ marks (a .best .side) → a .count ≡ countTo nodes (flag (a .best .side)) → a .floor ≡ floor → a .verdict ≡ verdictOf floor (found .weight)
+fn write_areas(side: &mut [u8], report: &mut [u8], cut: &[u8], found: Found, floor: u64)
+    requires { ⌜ (32 ≤ length (now side)) × (reportLength current ≤ length (now report)) × (length (now cut) ≡ 256) ⌝ }
+    ensures { λ _. ⌜ ((a : Answer) → Says found (a .best) → now (cut .entry) ≡ marks (a .best .side) → a .floor ≡ floor → a .verdict ≡ verdictOf floor (found .weight)
         → (now (side .exit) ≡ written (sideBytes (a .best .side)) (now (side .entry))) × (now (report .exit) ≡ written (reportBytes current a) (now (report .entry)))) ⌝ }
 {
     write_side(side, cut);
-    let count = count_marked(cut, nodes);
     let weight = found.weight;
     let fields = Report {
         verdict: verdict(floor, weight),
         tree: found.tree,
-        count: count,
+        count: found.count,
         first: found.first,
         second: second_link(found.first, found.second),
         weight: weight,
@@ -71,15 +60,14 @@ pub fn write_answer(
 )
     requires { ⌜ (at + c .trees * treeLength (c .links) ≤ length (now sheet)) × Accepted current (networkAt (now sheet) (now ends) (now weights) (countsOf c) at) ⌝ }
     requires { ⌜ EndArrays (now ends) × (length (now weights) ≡ 2048) × (32 ≤ length (now side)) × (reportLength current ≤ length (now report)) ⌝ }
-    ensures { λ _. ⌜ (now (side .exit) ≡ sideAfter (networkAt (now (sheet .entry)) (now (ends .entry)) (now (weights .entry)) (countsOf c) at) (now (side .entry)))
+    ensures { λ _. ⌜ (now (side .exit) ≡ sideAfter current (networkAt (now (sheet .entry)) (now (ends .entry)) (now (weights .entry)) (countsOf c) at) (now (side .entry)))
         × (now (report .exit) ≡ reportAfter current (networkAt (now (sheet .entry)) (now (ends .entry)) (now (weights .entry)) (countsOf c) at) (now (report .entry))) ⌝ }
 {
-    let nodes = c.nodes;
     let links = c.links;
     let trees = c.trees;
     let found = search_trees(sheet, c, at, ends, weights);
     let floor = bound(sheet, at, links, trees, weights, found.weight);
     let mut cut = [0u8; 256];
     mark_found(&mut cut, sheet, c, at, ends, found);
-    write_areas(side, report, &cut, nodes, found, floor);
+    write_areas(side, report, &cut, found, floor);
 }

@@ -7,7 +7,6 @@ ghost use mathlib.Core.Path.{_≡_};
 ghost use mathlib.Core.List.{[], _∷_};
 ghost use Prim.Native.Nat.{_+_, _≤_};
 ghost use lib.ListN.{length};
-ghost use Rattle.cuts.specs.Sums.{countTo};
 ghost use Rattle.cuts.specs.Network.{flag};
 ghost use Rattle.cuts.specs.Cut.{Side};
 ghost use Rattle.trees.specs.Marks.{marks};
@@ -33,20 +32,6 @@ pub struct Report {
     pub second: u16,
     pub weight: u64,
     pub floor: u64,
-}
-
-// How many of the first `nodes` nodes are marked.
-pub fn count_marked(side: &[u8], nodes: usize) -> u16
-    requires { ⌜ (length (now side) ≡ 256) × (nodes ≤ 256) ⌝ }
-    ensures { λ r. ⌜ ((s : Side) → now (side .entry) ≡ marks s → r ≡ countTo nodes (flag s)) ⌝ }
-{
-    let mut sum: u16 = 0;
-    let mut x = 0;
-    while x < nodes {
-        sum += side[x] as u16;
-        x += 1;
-    }
-    sum
 }
 
 // The byte of the eight marks at a position. The remainders keep the sum in a byte, whatever stands there.

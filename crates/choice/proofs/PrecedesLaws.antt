@@ -1,4 +1,4 @@
--- Where a candidate comes before another, handle by handle, tree by tree and by weight, the tests say so; and each test is an order.
+-- Where a candidate comes before another, handle by handle and tree by tree, the tests say so; and each test is an order.
 -- Assumes nothing.
 use Prim.Native.Nat.{ℕ, suc, _<_}
 use mathlib.Core.Path.{_≡_}
@@ -8,10 +8,10 @@ use native.Mathlib.Nat.{eq-or-lt-of-le}
 use native.Mathlib.Omega.{arith}
 use lib.Dec.{ltb}
 use borrow.Author.Tests.{lt-ltb}
-use Rattle.cuts.specs.Candidate.{Handle, one, two, Candidate, lighter, Sooner, Earlier, Precedes}
+use Rattle.cuts.specs.Candidate.{Handle, one, two, Candidate, Sooner, Earlier}
 use Rattle.cuts.proofs.Least.{Order, by-key}
+use Rattle.cuts.proofs.ThenLaws.{then-order, by-number-in}
 use Rattle.choice.specs.Choice.{lead, rest, sooner, earlier, comesFirst}
-use Rattle.choice.proofs.OrderLaws.{then-order, by-number-in}
 
 -- ---- what the tests say
 
@@ -42,14 +42,6 @@ module _ (c d : Candidate) where
       step (inl l) = inl l
       step (inr p) = inr (p .0, sooner-in (c .handle) (d .handle) (p .1))
 
-  pub precedes-in : Precedes c d → comesFirst lighter c d ≡ true
-  unfolding comesFirst lighter
-  precedes-in e = by-number-in (λ c. c .weight) earlier c d (step e)
-    where
-      step : Precedes c d → (c .weight < d .weight) ⊎ ((c .weight ≡ d .weight) × (earlier c d ≡ true))
-      step (inl l) = inl l
-      step (inr p) = inr (p .0, earlier-in (p .1))
-
 -- ---- they are orders
 
 by-image : {A B : Type 0} (f : A → B) {before : B → B → Bool} → Order before → Order {A = A} (λ x y. before (f x) (f y))
@@ -62,10 +54,6 @@ sooner-order = then-order _ _ (by-key lead) (by-key rest)
 earlier-order : Order earlier
 unfolding earlier
 earlier-order = then-order _ _ (by-key (λ c. c .tree)) (by-image (λ c. c .handle) sooner-order)
-
-pub lighter-order : Order lighter
-unfolding lighter
-lighter-order = by-key (λ c. c .weight)
 
 pub comesFirst-order : {before : Candidate → Candidate → Bool} → Order before → Order (comesFirst before)
 unfolding comesFirst

@@ -1,34 +1,31 @@
 -- The order of candidates as a test, the first of candidates that were visited in any way, and a candidate as it is found. Assumes nothing.
---   thenBy before next x y   x comes before y; where neither comes before the other, `next` decides
 --   FirstOf before among c   c is one of those `among`, and none of them comes before it
 --   lead h                   the first link that the handle h names
 --   rest h                   what decides where these are equal: 0 for one link, for two one more than the second
 --   sooner g h               Sooner as a test
 --   earlier c d              Earlier as a test
---   comesFirst before c d    `before`, and of even ones the earlier; with `lighter`, Precedes as a test
+--   comesFirst before c d    `before`, and of even ones the earlier; with `ahead rank`, Precedes of that rank as a test
 --   treeCandidates net i t   all candidates of tree i, which is t, in their order
 --   firstTrees net i         all of the trees below i, in their order
 --   Visited net c i x        x is c, or one of these
 --   Prior before net i t c   each candidate of tree i comes before c, or c is the earlier
 --   chosen e f               the handle that two link numbers name: one link where they are equal
---   Says found c             `found` says the tree, the handle and the weight of c
+--   Says found c             `found` says the tree, the handle, the weight and the number of nodes of c
 --   shown found              a candidate that it says, with no side
 --   unfound                  where a search starts: a candidate heavier than any of a network
 use Prim.Native.Nat.{ℕ, suc}
 use mathlib.Core.Path.{_≡_}
 use mathlib.Core.Logic.{_⊎_}
-use mathlib.Core.Bool.{Bool, true, false, _&&_, _||_, not, cond}
+use mathlib.Core.Bool.{Bool, true, false, cond}
 use mathlib.Core.List.{List, [], map, List·Memᴰ}
 use lib.ListN.{take}
 use lib.Dec.{eqb, ltb}
+use Rattle.cuts.specs.First.{thenBy}
 use Rattle.cuts.specs.Network.{Network, Tree}
 use Rattle.cuts.specs.Candidate.{Handle, one, two, Fits, Candidate, candidate, handles, memberLinks, candidatesFrom, Earlier}
 use Rattle.choice.specs.declared.Found.{Found}
 
 -- ---- any order
-
-unfoldable pub thenBy : {A : Type 0} → (A → A → Bool) → (A → A → Bool) → A → A → Bool
-thenBy before next x y = before x y || (not (before y x) && next x y)
 
 pub record FirstOf {A : Type 0} (before : A → A → Bool) (among : A → Type 0) (c : A) : Type 0 where
   pub is-among : among c
@@ -79,9 +76,10 @@ pub record Says (found : Found) (c : Candidate) : Type 0 where
   pub tree : found .tree ≡ c .tree
   pub handle : chosen (found .first) (found .second) ≡ c .handle
   pub weight : found .weight ≡ c .weight
+  pub count : found .count ≡ c .count
 
 abbrev pub shown : Found → Candidate
-shown found = record { tree = found .tree; handle = chosen (found .first) (found .second); weight = found .weight; side = [] }
+shown found = record { tree = found .tree; handle = chosen (found .first) (found .second); weight = found .weight; count = found .count; side = [] }
 
 abbrev pub unfound : Candidate
-unfound = record { tree = 0; handle = one 0; weight = 18_446_744_073_709_551_615; side = [] }
+unfound = record { tree = 0; handle = one 0; weight = 18_446_744_073_709_551_615; count = 0; side = [] }

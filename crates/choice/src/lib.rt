@@ -1,20 +1,21 @@
-// Chooses between candidates in any order of visits: by weight, tree, first link, one link before two, and second link. These decide
-// between any two candidates of a network, so that it does not matter in which order they are visited.
+// Chooses between candidates in any order of visits: by weight, number of nodes in the side, tree, first link, one link before two, and
+// second link. These decide between any two candidates of a network, so that it does not matter in which order they are visited.
 ghost use mathlib.Core.Path.{_≡_};
 ghost use mathlib.Core.Bool.{cond};
 ghost use Prim.Native.Nat.{min, max};
-ghost use Rattle.cuts.specs.Candidate.{Candidate, lighter};
+ghost use Rattle.cuts.specs.Candidate.{Candidate, fewerNodes, ahead};
 ghost use Rattle.choice.specs.Choice.{rest, comesFirst, chosen, Says, shown};
 
-// A candidate: the tree, its one or two links, which are equal where there is one, and the weight.
+// A candidate: the tree, its one or two links, which are equal where there is one, the weight and the number of nodes in the side.
 pub struct Found {
     pub tree: u8,
     pub first: u16,
     pub second: u16,
     pub weight: u64,
+    pub count: u16,
 }
 
-// What decides between two candidates of one weight, tree and first link: 0 for one link, for two one more than the second.
+// What decides between two candidates that are even in weight, nodes, tree and first link: 0 for one link, for two one more than the second.
 fn rank(first: u16, second: u16) -> u32
     ensures { λ r. ⌜ r ≡ rest (chosen first second) ⌝ }
 {
@@ -26,10 +27,13 @@ fn rank(first: u16, second: u16) -> u32
 
 // Whether `a` comes before `b`.
 fn comes_first(a: Found, b: Found) -> bool
-    ensures { λ r. ⌜ r ≡ comesFirst lighter (shown a) (shown b) ⌝ }
+    ensures { λ r. ⌜ r ≡ comesFirst (ahead fewerNodes) (shown a) (shown b) ⌝ }
 {
     if a.weight != b.weight {
         return a.weight < b.weight;
+    }
+    if a.count != b.count {
+        return a.count < b.count;
     }
     if a.tree != b.tree {
         return a.tree < b.tree;
@@ -42,7 +46,7 @@ fn comes_first(a: Found, b: Found) -> bool
 
 // The one of two candidates that comes first; of even ones the one found before.
 fn choose(before: Found, tried: Found) -> Found
-    ensures { λ r. ⌜ ((c d : Candidate) → Says before c → Says tried d → Says r (cond (comesFirst lighter d c) d c)) ⌝ }
+    ensures { λ r. ⌜ ((c d : Candidate) → Says before c → Says tried d → Says r (cond (comesFirst (ahead fewerNodes) d c) d c)) ⌝ }
 {
     if comes_first(tried, before) {
         return tried;
@@ -51,8 +55,8 @@ fn choose(before: Found, tried: Found) -> Found
 }
 
 // The candidate of two links of a tree in either order, or of one link given twice.
-fn pair_of(tree: u8, a: u16, b: u16, weight: u64) -> Found
-    ensures { λ r. ⌜ (r .tree ≡ tree) × (r .first ≡ min a b) × (r .second ≡ max a b) × (r .weight ≡ weight) ⌝ }
+fn pair_of(tree: u8, a: u16, b: u16, weight: u64, count: u16) -> Found
+    ensures { λ r. ⌜ (r .tree ≡ tree) × (r .first ≡ min a b) × (r .second ≡ max a b) × (r .weight ≡ weight) × (r .count ≡ count) ⌝ }
 {
     if a < b {
         return Found {
@@ -60,6 +64,7 @@ fn pair_of(tree: u8, a: u16, b: u16, weight: u64) -> Found
             first: a,
             second: b,
             weight: weight,
+            count: count,
         };
     }
     Found {
@@ -67,16 +72,15 @@ fn pair_of(tree: u8, a: u16, b: u16, weight: u64) -> Found
         first: b,
         second: a,
         weight: weight,
+        count: count,
     }
 }
 
-// The one that comes first of what was found before and two links of a tree with their weight, in either order, or one link given twice.
-pub fn try_pair(before: Found, tree: u8, a: u16, b: u16, weight: u64) -> Found
-    ensures { λ r. ⌜ ((c d : Candidate) → Says before c → d .tree ≡ tree → d .handle ≡ chosen (min a b) (max a b) → d .weight ≡ weight
-        → Says r (cond (comesFirst lighter d c) d c)) ⌝ }
+// The one that comes first of what was found before and two links of a tree in either order, or one link given twice, with their weight and
+// the number of nodes in their side.
+pub fn try_pair(before: Found, tree: u8, a: u16, b: u16, weight: u64, count: u16) -> Found
+    ensures { λ r. ⌜ ((c d : Candidate) → Says before c → d .tree ≡ tree → d .handle ≡ chosen (min a b) (max a b) → d .weight ≡ weight → d .count ≡ count
+        → Says r (cond (comesFirst (ahead fewerNodes) d c) d c)) ⌝ }
 {
-    if before.weight < weight {
-        return before;
-    }
-    choose(before, pair_of(tree, a, b, weight))
+    choose(before, pair_of(tree, a, b, weight, count))
 }

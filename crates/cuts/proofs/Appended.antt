@@ -10,8 +10,9 @@ use lib.Seq.{take-append-le}
 use Rattle.cuts.specs.Network.{Tree, Network}
 use Rattle.cuts.specs.Cut.{cutWeight, size}
 use Rattle.cuts.specs.Tree.{Sound}
+use Rattle.cuts.specs.Candidate.{Rank}
 use Rattle.cuts.specs.Bound.{shares, Packed, LongestRun, longestRun, counted, floor}
-use Rattle.cuts.specs.Answer.{answer, judged}
+use Rattle.cuts.specs.Answer.{Rules, answer, judged}
 use Rattle.cuts.proofs.LoadLaws.{shares-take}
 use Rattle.cuts.proofs.CountedLaws.{packed-within, run-longest, counted-run}
 use Rattle.cuts.proofs.Demands.{answer-demand3}
@@ -35,12 +36,16 @@ module _ (net : Network) (more : List Tree) where
       let l = shares-take (appended .trees) _ _ (c .0) in
       rw (counted-run net (net .trees) _ r, counted-run appended (appended .trees) _ s, ← c .1) l
 
-  pub appended-no-less : Sound net → Sound appended → answer longestRun net .floor ≤ answer longestRun appended .floor
-  unfolding answer judged floor size cutWeight
-  appended-no-less v w =
-      let new = answer-demand3 appended w longestRun in
-      let p = new .proper in
-      let b = answer-demand3 net v longestRun .floor-bounds (answer longestRun appended .best .side) (record { sized = p .sized; not-empty = p .not-empty; not-full = p .not-full }) in
-      let o = new .own-weight in
-      let l = shares-no-less in
-      omega arith
+  module _ (rank : Rank) where
+    abbrev by-run : Rules
+    by-run = record { counting = longestRun; rank = rank }
+
+    pub appended-no-less : Sound net → Sound appended → answer by-run net .floor ≤ answer by-run appended .floor
+    unfolding answer judged floor size cutWeight
+    appended-no-less v w =
+        let new = answer-demand3 appended w by-run in
+        let p = new .proper in
+        let b = answer-demand3 net v by-run .floor-bounds (answer by-run appended .best .side) (record { sized = p .sized; not-empty = p .not-empty; not-full = p .not-full }) in
+        let o = new .own-weight in
+        let l = shares-no-less in
+        omega arith

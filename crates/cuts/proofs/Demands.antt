@@ -10,15 +10,15 @@ use mathlib.Core.List.{List, _∷_, map, List·Memᴰ, List·Memᴰ·cases-cons,
 use native.Mathlib.Nat.{eq-or-lt-of-le}
 use native.Mathlib.Omega.{arith}
 use lib.ListN.{length, length-map}
-use lib.Dec.{eqb, leb}
+use lib.Dec.{eqb, ltb, leb}
 use borrow.Author.Tests.{eqb-true, eq-eqb, ne-eqb, ltb-true, ltb-false, leb-true, leb-false}
 use Rattle.cuts.specs.Sums.{only, anyTo}
 use Rattle.cuts.specs.Network.{Tree, Network, Linked, flag, linkCount, noTree, treeAt}
 use Rattle.cuts.specs.Cut.{Side, Respects, Proper, Rootless, crosses, cutWeight, crossings, size}
 use Rattle.cuts.specs.Tree.{Spanning, Sound, memberCount}
-use Rattle.cuts.specs.Candidate.{Candidate, Handle, Fits, Earlier, Precedes, one, two, candidate, candidates, lighter, noCandidate, sideOf}
+use Rattle.cuts.specs.Candidate.{Candidate, Handle, Fits, Rank, LowerThen, Earlier, Precedes, one, two, candidate, candidates, ahead, noCandidate, sideOf}
 use Rattle.cuts.specs.Bound.{shares, Counting, Counts, counted, floor}
-use Rattle.cuts.specs.Answer.{Answer, certified, treesOnly, verdictOf, reported, judged, answer}
+use Rattle.cuts.specs.Answer.{Rules, Answer, certified, treesOnly, verdictOf, reported, judged, answer}
 use Rattle.cuts.specs.Demands.{Demand2, Demand3, Owed}
 use Rattle.cuts.proofs.FlagLaws.{clash, truth}
 use Rattle.cuts.proofs.SumLaws.{anyTo-some, anyTo-at, sum-congr, sum-add, sum-const, count-lacks, count-none, Last, count-last}
@@ -28,6 +28,7 @@ use Rattle.cuts.proofs.Crossings.{named, sideOf-rootless, sideOf-crosse
 use Rattle.cuts.proofs.CountedLaws.{counted-counts, counts-packed, counts-listed}
 use Rattle.cuts.proofs.Packing.{packing}
 use Rattle.cuts.proofs.Least.{Order, by-key, First, first-in, first-least, first-of}
+use Rattle.cuts.proofs.ThenLaws.{then-order, by-number-of, by-number-not}
 use Rattle.cuts.proofs.Handles.{Genuine, candidate-in, candidate-of, candidates-earlier}
 
 -- ---- sizes
@@ -119,9 +120,35 @@ pub record Weighing (before : Candidate → Candidate → Bool) : Type 0 where
   pub order : Order before
   pub by-weight : (d c : Candidate) → before d c ≡ false → c .weight ≤ d .weight
 
-lighter-weighing : Weighing lighter
-unfolding lighter
-lighter-weighing = record { order = by-key (λ c. c .weight); by-weight = λ d c e. ltb-false _ _ e }
+module _ (rank : Rank) where
+  pub ahead-weighing : Weighing (ahead rank)
+  unfolding ahead
+  ahead-weighing = record {
+    order = then-order _ _ (by-key (λ c. c .weight)) (by-key rank);
+    by-weight = λ d c e. step (by-number-not (λ c. c .weight) (λ c d. ltb (rank c) (rank d)) c d e);
+  }
+    where
+      step : {a b : ℕ} {next : Type 0} → LowerThen a b next → a ≤ b
+      step (inl l) = omega arith
+      step (inr e) = omega (arith, e .0)
+
+  -- one that is ahead of another precedes it, and so does an earlier one that the other is not ahead of
+  ahead-precedes : (c d : Candidate) → (ahead rank c d ≡ true) ⊎ ((ahead rank d c ≡ false) × Earlier c d) → Precedes rank c d
+  unfolding ahead
+  ahead-precedes c d (inl e) = step (by-number-of (λ c. c .weight) (λ c d. ltb (rank c) (rank d)) c d e)
+    where
+      step : LowerThen (c .weight) (d .weight) (ltb (rank c) (rank d) ≡ true) → Precedes rank c d
+      step (inl l) = inl l
+      step (inr q) = inr (q .0, inl (ltb-true (rank c) (rank d) (q .1)))
+  ahead-precedes c d (inr e) = step (by-number-not (λ c. c .weight) (λ c d. ltb (rank c) (rank d)) c d (e .0))
+    where
+      level : (rank c ≡ rank d) ⊎ (rank c < rank d) → LowerThen (rank c) (rank d) (Earlier c d)
+      level (inl q) = inr (q, e .1)
+      level (inr l) = inl l
+
+      step : LowerThen (c .weight) (d .weight) (ltb (rank d) (rank c) ≡ false) → Precedes rank c d
+      step (inl l) = inl l
+      step (inr q) = inr (q .0, level (eq-or-lt-of-le (ltb-false (rank d) (rank c) (q .1))))
 
 pub verdict-tells : (f w : ℕ) → (verdictOf f w ≡ certified) ↔ (w ≡ f)
 verdict-tells f w = (λ h. sym (eqb-true f w (whole (eqb f w) h)), λ h. rw (eq-eqb f w (sym h)))
@@ -162,9 +189,9 @@ module _ (net : Network) (v : Sound net) where
 
   -- ---- demand 2
 
-  pub candidate-agrees : (a : Answer) → List·Memᴰ (a .best) (candidates net) → a .count ≡ size net (a .best .side) → Demand2 net a
+  pub candidate-agrees : (a : Answer) → List·Memᴰ (a .best) (candidates net) → Demand2 net a
   unfolding candidate
-  candidate-agrees a m n = from (candidate-of net (a .best) m)
+  candidate-agrees a m = from (candidate-of net (a .best) m)
     where
       most : (h : Handle) → named h ≤ 2
       most (one e) = omega arith
@@ -182,7 +209,7 @@ module _ (net : Network) (v : Sound net) where
             side-crosses = rw q (sideOf-crosses sp (a .best .handle) (g .fits));
             at-most-two = rw (q, sideOf-crossings sp (a .best .handle) (g .fits)) (most (a .best .handle));
             weight-is = ap (λ (x : Candidate). x .weight) (g .is);
-            count-is = n;
+            count-is = ap (λ (x : Candidate). x .count) (g .is) ∙ ap (size net) (sym q);
             conversely = λ i b s r. belongs (v .spanning i b) s r;
           }
 
@@ -251,43 +278,41 @@ module _ (net : Network) (v : Sound net) where
 
   -- ---- the answer
 
-  reported-first : First lighter (candidates net) (reported net)
-  unfolding reported
-  reported-first = first-of (lighter-weighing .order) noCandidate (candidates net) (some-candidate .1)
+  module _ (rank : Rank) where
+    pub reported-first : First (ahead rank) (candidates net) (reported rank net)
+    unfolding reported
+    reported-first = first-of (ahead-weighing rank .order) noCandidate (candidates net) (some-candidate .1)
 
-  -- the reported candidate precedes every other
-  reported-precedes : (d : Candidate) → List·Memᴰ d (candidates net) → (d ≡ reported net) ⊎ Precedes (reported net) d
-  unfolding lighter
-  reported-precedes d m = step (precedes lighter-weighing (reported net) reported-first d m)
-    where
-      step : (d ≡ reported net) ⊎ ((lighter (reported net) d ≡ true) ⊎ ((lighter d (reported net) ≡ false) × Earlier (reported net) d))
-          → (d ≡ reported net) ⊎ Precedes (reported net) d
-      step (inl e) = inl e
-      step (inr (inl e)) = inr (inl (ltb-true _ _ e))
-      step (inr (inr e)) = inr (even (eq-or-lt-of-le (ltb-false _ _ (e .0))))
-        where
-          even : (reported net .weight ≡ d .weight) ⊎ (reported net .weight < d .weight) → Precedes (reported net) d
-          even (inl q) = inr (q, e .1)
-          even (inr l) = inl l
+    -- the reported candidate precedes every other
+    pub reported-precedes : (d : Candidate) → List·Memᴰ d (candidates net) → (d ≡ reported rank net) ⊎ Precedes rank (reported rank net) d
+    reported-precedes d m = step (precedes (ahead-weighing rank) (reported rank net) reported-first d m)
+      where
+        step : (d ≡ reported rank net) ⊎ ((ahead rank (reported rank net) d ≡ true) ⊎ ((ahead rank d (reported rank net) ≡ false) × Earlier (reported rank net) d))
+            → (d ≡ reported rank net) ⊎ Precedes rank (reported rank net) d
+        step (inl e) = inl e
+        step (inr e) = inr (ahead-precedes rank (reported rank net) d e)
 
-  module _ (r : Counting) where
+  module _ (r : Rules) where
     pub answer-demand2 : Demand2 net (answer r net)
     unfolding answer judged
-    answer-demand2 = candidate-agrees (answer r net) (first-in reported-first) refl
+    answer-demand2 = candidate-agrees (answer r net) (first-in (reported-first (r .rank)))
 
-    pub answer-demand3 : Demand3 r net (answer r net)
+    pub answer-demand3 : Demand3 (r .counting) net (answer r net)
     unfolding answer judged floor
-    answer-demand3 = record {
-      proper = agrees-proper (answer r net) answer-demand2;
-      respects = (reported net .tree, answer-demand2 .tree-listed, answer-demand2 .at-most-two);
-      own-weight = agrees-weight (answer r net) answer-demand2;
-      lightest = light lighter-weighing (reported net) reported-first;
-      counted = counted r net (net .trees);
-      counts = counted-counts net (net .trees) r;
-      floor-is = refl;
-      floor-bounds = floor-least lighter-weighing (reported net) reported-first r;
-      marked = verdict-tells (answer r net .floor) (reported net .weight);
-    }
+    answer-demand3 =
+        let best = reported (r .rank) net in
+        let first = reported-first (r .rank) in
+        record {
+          proper = agrees-proper (answer r net) answer-demand2;
+          respects = (best .tree, answer-demand2 .tree-listed, answer-demand2 .at-most-two);
+          own-weight = agrees-weight (answer r net) answer-demand2;
+          lightest = light (ahead-weighing (r .rank)) best first;
+          counted = counted (r .counting) net (net .trees);
+          counts = counted-counts net (net .trees) (r .counting);
+          floor-is = refl;
+          floor-bounds = floor-least (ahead-weighing (r .rank)) best first (r .counting);
+          marked = verdict-tells (answer r net .floor) (best .weight);
+        }
 
     pub answer-owed : Owed r net (answer r net)
     unfolding answer judged
@@ -295,7 +320,7 @@ module _ (net : Network) (v : Sound net) where
       demand2 = answer-demand2;
       demand3 = answer-demand3;
       rootless = agrees-rootless (answer r net) answer-demand2;
-      unmarked = verdict-else (answer r net .floor) (reported net .weight);
-      listed = first-in reported-first;
-      first = reported-precedes;
+      unmarked = verdict-else (answer r net .floor) (answer r net .best .weight);
+      listed = first-in (reported-first (r .rank));
+      first = reported-precedes (r .rank);
     }

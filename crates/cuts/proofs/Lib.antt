@@ -10,6 +10,7 @@ pub mod CountedLaws
 pub mod LimitLaws
 pub mod Packing
 pub mod Least
+pub mod ThenLaws
 pub mod Handles
 pub mod Demands
 pub mod Sold

@@ -1,50 +1,128 @@
--- Units already sold, and request F-3: which trees count alters neither the reported cut nor its number of nodes. Where all trees are a
--- packing, floor and verdict are theirs too; elsewhere the floor is no less than theirs, which is 0, and a certified cut stays certified.
+-- Units already sold. Request F-3: which trees count does not alter the reported cut. Where all trees are a packing, floor and verdict are
+-- theirs too; elsewhere the floor is no less than theirs, which is 0, and a certified cut stays certified. Request F-6: the rank of
+-- candidates alters neither the reported weight nor floor and verdict; by fewer nodes, the reported cut is theirs unless one of the same
+-- weight has fewer nodes than theirs.
 -- Assumes nothing.
-use Prim.Native.Nat.{_*_, _≤_, min}
-use mathlib.Core.Path.{_≡_, refl}
-use mathlib.Core.Logic.{inl, inr}
+use Prim.Native.Nat.{ℕ, _*_, _≤_, min}
+use mathlib.Core.Path.{_≡_, refl, sym, ap}
+use mathlib.Core.Logic.{_⊎_, inl, inr}
 use native.Mathlib.Omega.{arith}
 use Rattle.cuts.specs.Network.{Network}
-use Rattle.cuts.specs.Bound.{shares, Packed, Overloads, allOrNone, longestRun, Counts, counted, floor}
-use Rattle.cuts.specs.Answer.{certified, judged, answer}
+use Rattle.cuts.specs.Tree.{Sound}
+use Rattle.cuts.specs.Candidate.{Handle, one, two, Candidate, Rank, alike, fewerNodes, Sooner, Earlier, Precedes}
+use Rattle.cuts.specs.Bound.{shares, Packed, Overloads, Counting, allOrNone, longestRun, Counts, counted, floor}
+use Rattle.cuts.specs.Answer.{Answer, certified, verdictOf, reported, judged, answer}
 use Rattle.cuts.proofs.CountedLaws.{counted-counts, counted-all}
-use Rattle.cuts.proofs.Demands.{verdict-tells}
+use Rattle.cuts.proofs.Least.{first-in}
+use Rattle.cuts.proofs.Demands.{ahead-weighing, least, reported-first, reported-precedes, verdict-tells}
 
-module _ (net : Network) where
-  pub cut-before : answer longestRun net .best ≡ answer allOrNone net .best
+abbrev by : Counting → Rank → Network → Answer
+by counting rank net = answer (record { counting = counting; rank = rank }) net
+
+-- ---- F-3
+
+module _ (rank : Rank) (net : Network) where
+  abbrev sold : Answer
+  sold = by allOrNone rank net
+
+  abbrev tolerant : Answer
+  tolerant = by longestRun rank net
+
+  pub cut-before : tolerant .best ≡ sold .best
   unfolding answer judged
   cut-before = refl
 
-  pub count-before : answer longestRun net .count ≡ answer allOrNone net .count
-  unfolding answer judged
-  count-before = refl
-
   -- where no link is overloaded by all trees
-  pub answer-before : Packed net (net .trees) → answer longestRun net ≡ answer allOrNone net
+  pub answer-before : Packed net (net .trees) → tolerant ≡ sold
   unfolding answer judged
   answer-before p = rw (counted-all net (net .trees) longestRun p, counted-all net (net .trees) allOrNone p)
 
   -- "a single overload drops the floor to 0": where one is, the floor of units already sold
-  pub floor-0-before : Overloads net (net .trees) → answer allOrNone net .floor ≡ 0
+  pub floor-0-before : Overloads net (net .trees) → sold .floor ≡ 0
   unfolding answer judged floor shares
   floor-0-before o = step (counted-counts net (net .trees) allOrNone)
     where
-      step : Counts allOrNone net (net .trees) (counted allOrNone net (net .trees)) → min (answer allOrNone net .best .weight) (3 * shares (counted allOrNone net (net .trees))) ≡ 0
+      step : Counts allOrNone net (net .trees) (counted allOrNone net (net .trees)) → min (sold .best .weight) (3 * shares (counted allOrNone net (net .trees))) ≡ 0
       step (inl c) = let a = c .0 (o .0) (o .1) in absurd (omega (arith, o .2))
       step (inr c) = rw (c .1) (omega arith)
 
-  pub floor-no-less : answer allOrNone net .floor ≤ answer longestRun net .floor
+  pub floor-no-less : sold .floor ≤ tolerant .floor
   floor-no-less = step (counted-counts net (net .trees) allOrNone)
     where
-      step : Counts allOrNone net (net .trees) (counted allOrNone net (net .trees)) → answer allOrNone net .floor ≤ answer longestRun net .floor
+      step : Counts allOrNone net (net .trees) (counted allOrNone net (net .trees)) → sold .floor ≤ tolerant .floor
       step (inl c) = rw (answer-before (c .0)) (omega arith)
       step (inr c) = rw (floor-0-before (c .0)) (omega arith)
 
-  pub certified-before : answer allOrNone net .verdict ≡ certified → answer longestRun net .verdict ≡ certified
+  pub certified-before : sold .verdict ≡ certified → tolerant .verdict ≡ certified
   unfolding answer judged
   certified-before v =
-      let w = answer longestRun net .best .weight in
-      let e = verdict-tells (answer allOrNone net .floor) w .0 v in
+      let w = tolerant .best .weight in
+      let e = verdict-tells (sold .floor) w .0 v in
       let l = floor-no-less in
-      verdict-tells (answer longestRun net .floor) w .1 (unfold floor in omega arith)
+      verdict-tells (tolerant .floor) w .1 (unfold floor in omega arith)
+
+-- ---- F-6
+
+sooner-one-way : (g h : Handle) → Sooner g h → Sooner h g → ⊥
+sooner-one-way (one e) (one f) l m = omega arith
+sooner-one-way (one e) (two f g) l m = omega arith
+sooner-one-way (two e f) (one g) l m = omega arith
+sooner-one-way (two e f) (two g h) (inl l) (inl m) = omega arith
+sooner-one-way (two e f) (two g h) (inl l) (inr m) = omega (arith, m .0)
+sooner-one-way (two e f) (two g h) (inr l) (inl m) = omega (arith, l .0)
+sooner-one-way (two e f) (two g h) (inr l) (inr m) = omega (arith, l .1, m .1)
+
+earlier-one-way : (c d : Candidate) → Earlier c d → Earlier d c → ⊥
+earlier-one-way c d (inl l) (inl m) = omega arith
+earlier-one-way c d (inl l) (inr m) = omega (arith, m .0)
+earlier-one-way c d (inr l) (inl m) = omega (arith, l .0)
+earlier-one-way c d (inr l) (inr m) = sooner-one-way (c .handle) (d .handle) (l .1) (m .1)
+
+module _ (net : Network) (v : Sound net) where
+  weight-least : (rank other : Rank) → reported rank net .weight ≤ reported other net .weight
+  weight-least rank other = least net v (ahead-weighing rank) (reported rank net) (reported-first net v rank) (reported other net) (first-in (reported-first net v other))
+
+  weight-same : (rank other : Rank) → reported rank net .weight ≡ reported other net .weight
+  weight-same rank other = let a = weight-least rank other in let b = weight-least other rank in omega arith
+
+  pub ranks-agree : (counting : Counting) (rank other : Rank) → let a = by counting rank net in let b = by counting other net in
+      (a .best .weight ≡ b .best .weight) × (a .floor ≡ b .floor) × (a .verdict ≡ b .verdict)
+  unfolding answer judged
+  ranks-agree counting rank other =
+      let same = weight-same rank other in
+      let floorOf : ℕ → ℕ = floor (counted counting net (net .trees)) in
+      (same, ap floorOf same, ap (λ (w : ℕ). verdictOf (floorOf w) w) same)
+
+  -- the cut that is reported by fewer nodes, and that of units already sold
+  abbrev small : Candidate
+  small = reported fewerNodes net
+
+  abbrev older : Candidate
+  older = reported alike net
+
+  small-precedes : (older ≡ small) ⊎ Precedes fewerNodes small older
+  small-precedes = reported-precedes net v fewerNodes older (first-in (reported-first net v alike))
+
+  older-precedes : (small ≡ older) ⊎ Precedes alike older small
+  older-precedes = reported-precedes net v alike small (first-in (reported-first net v fewerNodes))
+
+  pub count-no-more : small .count ≤ older .count
+  count-no-more = step (weight-same fewerNodes alike) small-precedes
+    where
+      step : {c d : Candidate} → c .weight ≡ d .weight → (d ≡ c) ⊎ Precedes fewerNodes c d → c .count ≤ d .count
+      step w (inl e) = let q = ap (λ (x : Candidate). x .count) e in omega arith
+      step w (inr (inl l)) = absurd (omega arith)
+      step w (inr (inr (q, inl l))) = omega arith
+      step w (inr (inr (q, inr e))) = omega (arith, e .0)
+
+  pub cut-same : small .count ≡ older .count → small ≡ older
+  cut-same n = step (weight-same fewerNodes alike) n small-precedes older-precedes
+    where
+      step : {c d : Candidate} → c .weight ≡ d .weight → c .count ≡ d .count → (d ≡ c) ⊎ Precedes fewerNodes c d → (c ≡ d) ⊎ Precedes alike d c → c ≡ d
+      step w n (inl e) _ = sym e
+      step w n (inr p) (inl e) = e
+      step w n (inr (inl l)) (inr p) = absurd (omega arith)
+      step w n (inr (inr (q, inl l))) (inr p) = absurd (omega arith)
+      step w n (inr (inr (q, inr e))) (inr (inl l)) = absurd (omega arith)
+      step w n (inr (inr (q, inr e))) (inr (inr (r, inl l))) = absurd (omega arith)
+      step {c} {d} w n (inr (inr (q, inr e))) (inr (inr (r, inr f))) = absurd (earlier-one-way c d (e .1) (f .1))

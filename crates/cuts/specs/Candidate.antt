@@ -11,15 +11,19 @@
 --   memberLinks net t          the members of the tree, rising
 --   pairsWith e es             the link e with each of es
 --   handles es                 of rising links es: each alone, then with each later one
---   Candidate                  a tree's number, a handle of that tree, its weight and its side
+--   Candidate                  a tree's number, a handle of that tree, its weight, the number of nodes in its side, and its side
 --   candidate net i t h        the candidate of the handle h of tree i, which is t
 --   candidatesFrom net i ts    the candidates of the trees ts, which are numbered from i
 --   candidates net             all candidates: by tree, first link, one link before two, second link
 --   noCandidate                what stands for the first of no candidates; a sound network has some
---   lighter d c                d weighs less than c
+--   Rank                       a number that decides between candidates of one weight before their trees do: the lower comes first
+--   alike                      document 01's rank, of units already sold: it decides nothing
+--   fewerNodes                 the rank of request F-6: the number of nodes in the side
+--   ahead k d c                d weighs less than c; of one weight, d has the lower rank by k. The list has the rest of the order
+--   LowerThen a b next         a is lower than b; where they are equal, `next` decides
 --   Sooner g h                 of handles of one tree, g comes first: lower first link, one link before two, lower second link
---   Earlier c d                of candidates of one weight, c comes first: lower tree number, then the sooner handle
---   Precedes c d               c comes before d in document 01's order of candidates: lower weight, then the earlier
+--   Earlier c d                c comes first in the list: lower tree number, then the sooner handle
+--   Precedes k c d             c comes before d in the order of candidates: lower weight, lower rank by k, then the earlier
 use Prim.Native.Nat.{ℕ, suc, _+_, _-_, _*_, _≤_, _<_}
 use mathlib.Core.Path.{_≡_}
 use mathlib.Core.Logic.{_⊎_}
@@ -27,8 +31,9 @@ use mathlib.Core.Bool.{Bool, _&&_, _||_}
 use mathlib.Core.List.{List, [], _∷_, _++_, map}
 use lib.Dec.{eqb, ltb}
 use Rattle.cuts.specs.Sums.{sumTo, only, select}
+use Rattle.cuts.specs.First.{thenBy}
 use Rattle.cuts.specs.Network.{Tree, Network, flag, linkAt, linkCount}
-use Rattle.cuts.specs.Cut.{Side, crosses, cutWeight, symDiff}
+use Rattle.cuts.specs.Cut.{Side, crosses, cutWeight, symDiff, size}
 use Rattle.cuts.specs.Tree.{below, Member}
 
 pub data Handle : Type 0 where
@@ -80,11 +85,14 @@ pub record Candidate : Type 0 where
   pub tree : ℕ
   pub handle : Handle
   pub weight : ℕ
+  pub count : ℕ
   pub side : Side
 
 unfoldable pub candidate : Network → ℕ → Tree → Handle → Candidate
-unfolding sideOf weightOf
-candidate net i t h = record { tree = i; handle = h; weight = weightOf net t h; side = sideOf net t h }
+unfolding sideOf weightOf size
+candidate net i t h =
+    let s : Side = sideOf net t h in
+    record { tree = i; handle = h; weight = weightOf net t h; count = size net s; side = s }
 
 unfoldable pub candidatesFrom : Network → ℕ → List Tree → List Candidate
 unfolding candidate handles memberLinks
@@ -96,21 +104,35 @@ unfolding candidatesFrom
 candidates net = candidatesFrom net 0 (net .trees)
 
 abbrev pub noCandidate : Candidate
-noCandidate = record { tree = 0; handle = one 0; weight = 0; side = [] }
+noCandidate = record { tree = 0; handle = one 0; weight = 0; count = 0; side = [] }
 
 -- ---- their order
 
-unfoldable pub lighter : Candidate → Candidate → Bool
-lighter d c = ltb (d .weight) (c .weight)
+abbrev pub Rank : Type 0
+Rank = Candidate → ℕ
+
+abbrev pub alike : Rank
+alike c = 0
+
+abbrev pub fewerNodes : Rank
+fewerNodes c = c .count
+
+unfoldable pub ahead : Rank → Candidate → Candidate → Bool
+unfolding thenBy
+ahead rank d c = thenBy (λ x y. ltb (x .weight) (y .weight)) (λ x y. ltb (rank x) (rank y)) d c
+
+abbrev pub LowerThen : ℕ → ℕ → Type 0 → Type 0
+LowerThen a b next = (a < b) ⊎ ((a ≡ b) × next)
 
 abbrev pub Sooner : Handle → Handle → Type 0
 Sooner (one e) (one f) = e < f
 Sooner (one e) (two f g) = e ≤ f
 Sooner (two e f) (one g) = e < g
-Sooner (two e f) (two g h) = (e < g) ⊎ ((e ≡ g) × (f < h))
+Sooner (two e f) (two g h) = LowerThen e g (f < h)
 
 abbrev pub Earlier : Candidate → Candidate → Type 0
-Earlier c d = (c .tree < d .tree) ⊎ ((c .tree ≡ d .tree) × Sooner (c .handle) (d .handle))
+Earlier c d = LowerThen (c .tree) (d .tree) (Sooner (c .handle) (d .handle))
 
-abbrev pub Precedes : Candidate → Candidate → Type 0
-Precedes c d = (c .weight < d .weight) ⊎ ((c .weight ≡ d .weight) × Earlier c d)
+-- F-6: "the order is weight, fewer nodes in the side, tree, first link, single before pair, second link"
+abbrev pub Precedes : Rank → Candidate → Candidate → Type 0
+Precedes rank c d = LowerThen (c .weight) (d .weight) (LowerThen (rank c) (rank d) (Earlier c d))

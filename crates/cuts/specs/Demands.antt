@@ -1,9 +1,10 @@
 -- Demands 2 and 3, stated of a network and of an answer, which may be any: the answer that the definitions give, or what is
--- read back from the bytes of the two areas. The comments are the demands' words, and of the floor those of request F-3. Assumes nothing.
+-- read back from the bytes of the two areas. The comments are the demands' words, of the floor those of request F-3, and of the order
+-- of candidates those of request F-6. Assumes nothing.
 --   Belongs net t s   the side s belongs to one single link or pair of the tree t
 --   Demand2 net a     the answer a agrees with the definition of a cut that crosses at most two tree links, and conversely
---   Demand3 r net a   the answer a reports a lightest cut, its floor and its mark, where trees count for the floor by the rule r
---   Owed r net a      what is owed of an answer: both demands, and what document 01 says of the choice among candidates
+--   Demand3 n net a   the answer a reports a lightest cut, its floor and its mark, where trees count for the floor by the rule n
+--   Owed r net a      what is owed of an answer by the rules r: both demands, and what is said of the choice among candidates
 use Prim.Native.Nat.{ℕ, _*_, _≤_, _<_, min}
 use mathlib.Core.Path.{_≡_}
 use mathlib.Core.Logic.{_⊎_, _↔_}
@@ -14,7 +15,7 @@ use Rattle.cuts.specs.Cut.{Side, Respects, Proper, Rootless, crosses, cu
 use Rattle.cuts.specs.Tree.{Member}
 use Rattle.cuts.specs.Candidate.{Handle, Candidate, Fits, names, sideOf, weightOf, candidates, Precedes}
 use Rattle.cuts.specs.Bound.{Counting, Counts, shares}
-use Rattle.cuts.specs.Answer.{Answer, certified, treesOnly}
+use Rattle.cuts.specs.Answer.{Rules, Answer, certified, treesOnly}
 
 pub record Belongs (net : Network) (t : Tree) (s : Side) : Type 0 where
   pub handle : Handle
@@ -36,12 +37,12 @@ pub record Demand2 (net : Network) (a : Answer) : Type 0 where
       → crosses net (a .best .side) k ≡ names (a .best .handle) k
   pub at-most-two : Respects net (treeAt net (a .best .tree)) (a .best .side)
   pub weight-is : a .best .weight ≡ weightOf net (treeAt net (a .best .tree)) (a .best .handle)
-  pub count-is : a .count ≡ size net (a .best .side)
+  pub count-is : a .best .count ≡ size net (a .best .side)
   -- "Conversely, each side without the core switch that crosses one or two cables of a tree"
   pub conversely : (i : ℕ) → i < length (net .trees) → (s : Side) → Rootless net s
       → 1 ≤ crossings net (treeAt net i) s → Respects net (treeAt net i) s → Belongs net (treeAt net i) s
 
-pub record Demand3 (r : Counting) (net : Network) (a : Answer) : Type 0 where
+pub record Demand3 (counting : Counting) (net : Network) (a : Answer) : Type 0 where
   -- "the weakest cut reported is neither empty nor full"
   pub proper : Proper net (a .best .side)
   -- "and crosses at most two cables of some listed tree"
@@ -54,20 +55,21 @@ pub record Demand3 (r : Counting) (net : Network) (a : Answer) : Type 0 where
   -- F-3, in place of the demand's sum of all shares and its 0 elsewhere: "the trees that count are the longest run from tree 0 on
   -- that loads no link past its weight, and the floor uses the sum of their shares only"
   pub counted : List Tree
-  pub counts : Counts r net (net .trees) counted
+  pub counts : Counts counting net (net .trees) counted
   pub floor-is : a .floor ≡ min (a .best .weight) (3 * shares counted)
   -- "Every side of the whole network, neither empty nor full, whether or not a tree shows it, weighs at least the reported floor"
   pub floor-bounds : (s : Side) → Proper net s → a .floor ≤ cutWeight net s
   -- "the cut is marked as weakest of the whole network exactly when its weight equals that floor"
   pub marked : (a .verdict ≡ certified) ↔ (a .best .weight ≡ a .floor)
 
-pub record Owed (r : Counting) (net : Network) (a : Answer) : Type 0 where
+pub record Owed (r : Rules) (net : Network) (a : Answer) : Type 0 where
   pub demand2 : Demand2 net a
-  pub demand3 : Demand3 r net a
+  pub demand3 : Demand3 (r .counting) net a
   -- document 01: "so the reported side never holds node 0"
   pub rootless : Rootless net (a .best .side)
   -- document 01: "else 1 (trees only)"
   pub unmarked : (a .best .weight ≡ a .floor → ⊥) → a .verdict ≡ treesOnly
-  -- document 01: "the first in order is reported"
+  -- document 01: "the first in order is reported", and F-6: "the order is weight, fewer nodes in the side, tree, first link, single
+  -- before pair, second link"
   pub listed : List·Memᴰ (a .best) (candidates net)
-  pub first : (d : Candidate) → List·Memᴰ d (candidates net) → (d ≡ a .best) ⊎ Precedes (a .best) d
+  pub first : (d : Candidate) → List·Memᴰ d (candidates net) → (d ≡ a .best) ⊎ Precedes (r .rank) (a .best) d

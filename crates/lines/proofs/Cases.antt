@@ -9,15 +9,15 @@ use Rattle.text.specs.Decimal.{Text, decimal}
 use Rattle.text.specs.Line.{ascii, refusedLine}
 use Rattle.lines.specs.Output.{answerLines, output}
 
--- A to H, H with each of its shares
+-- A to H, H with each of its shares; C, D and F as request F-6 has them
 starredLines : List Text
 starredLines =
     ascii "answer 2 5 5 0 0 - 1\nside 1\n"
     ∷ ascii "answer 1 5 3 0 0 - 1\nside 1\n"
-    ∷ ascii "answer 2 2 2 0 0 - 3\nside 1 2 3\n"
-    ∷ ascii "answer 1 2 0 0 0 - 3\nside 1 2 3\n"
     ∷ ascii "answer 2 2 2 0 0 1 1\nside 1\n"
-    ∷ ascii "answer 1 11 3 0 0 - 3\nside 1 2 3\n"
+    ∷ ascii "answer 1 2 0 0 0 1 1\nside 1\n"
+    ∷ ascii "answer 2 2 2 0 0 1 1\nside 1\n"
+    ∷ ascii "answer 1 11 3 0 2 - 1\nside 3\n"
     ∷ ascii "answer 2 0 0 0 0 - 1\nside 1\n"
     ∷ ascii "answer 1 4 3 0 0 - 1\nside 1\n"
     ∷ ascii "answer 2 4 4 0 0 - 1\nside 1\n"

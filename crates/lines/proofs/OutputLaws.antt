@@ -15,7 +15,7 @@ use Rattle.cuts.proofs.Handles.{select-congr}
 use Rattle.sheet.specs.Bytes.{Bytes, number, fields, mapBit}
 use Rattle.sheet.specs.Reading.{Reading, accepted, refused, numberOf}
 use Rattle.sheet.specs.Sheet.{Format, decode}
-use Rattle.sheet.specs.Areas.{sideBytes, reportWidths, reportLength, written, sideAfter, reportAfter, sideRead, answerOf, answerRead}
+use Rattle.sheet.specs.Areas.{sideBytes, reportWidths, reportLength, sideAfter, reportAfter, sideRead, answerOf, answerRead}
 use Rattle.sheet.proofs.ByteLaws.{mapBit-table}
 use Rattle.sheet.proofs.Acceptance.{decode-zero}
 use Rattle.monitor.specs.Entry.{reading, sideLeft, reportLeft, Reported}
@@ -44,12 +44,12 @@ answerLines-put {old} {mid} {new} {p} {q} f fs side report e h k =
     (put-put h k)
 
 -- read from the areas with a flag for each of the 256 bits, an answer prints as it does with a flag for each node
-answerLines-back : (f : Format) (net : Network) (side report : Bytes) → answerRead f (net .nodes) (sideAfter net side) (reportAfter f net report) ≡ answer (f .counting) net
-    → answerLines (answerRead f 256 (sideAfter net side) (reportAfter f net report)) ≡ answerLines (answer (f .counting) net)
+answerLines-back : (f : Format) (net : Network) (side report : Bytes) → answerRead f (net .nodes) (sideAfter f net side) (reportAfter f net report) ≡ answer (f .rules) net
+    → answerLines (answerRead f 256 (sideAfter f net side) (reportAfter f net report)) ≡ answerLines (answer (f .rules) net)
 unfolding answer answerLines answerRead sideRead sideBytes
 answerLines-back f net side report back =
-    let test : ℕ → Bool = flag (reported net .side) in
-    let area : Bytes = sideAfter net side in
+    let test : ℕ → Bool = flag (reported (f .rules .rank) net .side) in
+    let area : Bytes = sideAfter f net side in
     ap₂ (λ (a : Answer) (ns : List Text). line answerWord (answerFields a) ++ line sideWord ns) back
     (sideFields-select (sideRead 256 area) test (λ k b. table-at false 256 (mapBit area) k b ∙ mapBit-table 32 test (drop 32 side) k (omega arith)))
 
@@ -61,13 +61,13 @@ module _ {f : Format} {sheet side report side′ report′ : Bytes} {n : ℕ} (s
   decides : reading f sheet side report ≡ decode f sheet
   decides = reading-is f sheet side report (omega arith) (omega arith)
 
-  pub answer-output : ((net : Network) → decode f sheet ≡ accepted net [] → answerRead f (net .nodes) (sideAfter net side) (reportAfter f net report) ≡ answer (f .counting) net)
+  pub answer-output : ((net : Network) → decode f sheet ≡ accepted net [] → answerRead f (net .nodes) (sideAfter f net side) (reportAfter f net report) ≡ answer (f .rules) net)
       → n ≡ 0 → answerLines (answerRead f 256 side′ report′) ≡ output f (decode f sheet)
   answer-output back z =
       let read = decode-zero f sheet (sym (said .number ∙ ap numberOf decides) ∙ z) in
       let net : Network = read .0 in
       let e : reading f sheet side report ≡ accepted net [] = decides ∙ read .1 in
-      ap₂ (λ (a b : Bytes). answerLines (answerRead f 256 a b)) (said .side-is ∙ ap (sideLeft side) e) (said .report-is ∙ ap (reportLeft f report) e)
+      ap₂ (λ (a b : Bytes). answerLines (answerRead f 256 a b)) (said .side-is ∙ ap (sideLeft f side) e) (said .report-is ∙ ap (reportLeft f report) e)
       ∙ answerLines-back f net side report (back net (read .1))
       ∙ sym (ap (output f) (read .1))
 

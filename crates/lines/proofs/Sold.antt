@@ -6,15 +6,17 @@ use Prim.Native.Nat.{ℕ, _≤_}
 use mathlib.Core.Path.{_≡_, refl, sym, ap, _∙_}
 use mathlib.Core.Bool.{false}
 use Rattle.cuts.specs.Network.{Network}
-use Rattle.cuts.specs.Bound.{Packed, allOrNone}
-use Rattle.cuts.specs.Answer.{certified, answer}
-use Rattle.cuts.proofs.Sold.{answer-before, floor-no-less, certified-before}
+use Rattle.cuts.specs.Candidate.{alike, fewerNodes}
+use Rattle.cuts.specs.Bound.{Packed, longestRun}
+use Rattle.cuts.specs.Answer.{Answer, certified, judged, answer}
+use Rattle.cuts.proofs.Sold.{answer-before, floor-no-less, certified-before, ranks-agree, count-no-more}
 use Rattle.sheet.specs.Bytes.{Bytes}
 use Rattle.sheet.specs.Reading.{Reading, accepted, refused, numberOf}
-use Rattle.sheet.specs.Sheet.{Format, base, wide, tolerant, current, decode}
+use Rattle.sheet.specs.Sheet.{Format, base, wide, tolerant, trunked, current, decode}
 use Rattle.sheet.specs.Plain.{marked, cutOff, plain}
+use Rattle.sheet.proofs.Acceptance.{decode-accepted}
 use Rattle.sheet.proofs.PlainLaws.{plain-same}
-use Rattle.sheet.proofs.Sold.{reads-before, accepted-before, accepted-as-wide, refused-before, refused-as-wide}
+use Rattle.sheet.proofs.Sold.{reads-as-trunked, reads-before, accepted-before, accepted-as-wide, refused-before, refused-as-wide}
 use Rattle.text.specs.Decimal.{Text}
 use Rattle.lines.specs.Output.{answerLines, output}
 
@@ -26,38 +28,42 @@ prints f sheet = output f (decode f sheet)
 pub record Relined (net : Network) (lines : Text) : Type 0 where
   pub verdict : ℕ
   pub floor : ℕ
-  pub lines-are : lines ≡ answerLines (record { best = answer allOrNone net .best; count = answer allOrNone net .count; floor = floor; verdict = verdict })
-  pub floor-no-less : answer allOrNone net .floor ≤ floor
-  pub certified-before : answer allOrNone net .verdict ≡ certified → verdict ≡ certified
+  pub lines-are : lines ≡ answerLines (record { best = answer (base .rules) net .best; floor = floor; verdict = verdict })
+  pub floor-no-less : answer (base .rules) net .floor ≤ floor
+  pub certified-before : answer (base .rules) net .verdict ≡ certified → verdict ≡ certified
 
 -- a sheet that reads as it did
 module _ (sheet : Bytes) (net : Network) (rest : Bytes) (reads : decode current sheet ≡ accepted net rest) where
-  same-lines : Packed net (net .trees) → prints current sheet ≡ answerLines (answer allOrNone net)
-  same-lines p = ap (output current) reads ∙ ap answerLines (answer-before net p)
+  reads-trunked : decode trunked sheet ≡ accepted net rest
+  reads-trunked = sym (reads-as-trunked sheet) ∙ reads
 
-  other-lines : Relined net (prints current sheet)
+  same-lines : Packed net (net .trees) → prints trunked sheet ≡ answerLines (answer (base .rules) net)
+  same-lines p = ap (output trunked) reads-trunked ∙ ap answerLines (answer-before alike net p)
+
+  other-lines : Relined net (prints trunked sheet)
   unfolding answer
   other-lines = record {
-    verdict = answer (current .counting) net .verdict;
-    floor = answer (current .counting) net .floor;
-    lines-are = ap (output current) reads;
-    floor-no-less = floor-no-less net;
-    certified-before = certified-before net;
+    verdict = answer (trunked .rules) net .verdict;
+    floor = answer (trunked .rules) net .floor;
+    lines-are = ap (output trunked) reads-trunked;
+    floor-no-less = floor-no-less alike net;
+    certified-before = certified-before alike net;
   }
 
+-- in the order of candidates that units already sold have
 module _ (sheet : Bytes) (net : Network) (rest : Bytes) where
   -- F-2: "In the report program every sheet accepted before prints the same lines"; F-3: where no link is overloaded by all trees
-  pub lines-before : decode base sheet ≡ accepted net rest → Packed net (net .trees) → prints current sheet ≡ prints base sheet
+  pub lines-before : decode base sheet ≡ accepted net rest → Packed net (net .trees) → prints trunked sheet ≡ prints base sheet
   lines-before e p = same-lines sheet net rest (accepted-before sheet net rest e) p ∙ sym (ap (output base) e)
 
-  pub lines-as-wide : decode wide sheet ≡ accepted net rest → Packed net (net .trees) → prints current sheet ≡ prints wide sheet
+  pub lines-as-wide : decode wide sheet ≡ accepted net rest → Packed net (net .trees) → prints trunked sheet ≡ prints wide sheet
   lines-as-wide e p = same-lines sheet net rest (accepted-as-wide sheet net rest e) p ∙ sym (ap (output wide) e)
 
   -- elsewhere
-  pub relined-before : decode base sheet ≡ accepted net rest → Relined net (prints current sheet)
+  pub relined-before : decode base sheet ≡ accepted net rest → Relined net (prints trunked sheet)
   relined-before e = other-lines sheet net rest (accepted-before sheet net rest e)
 
-  pub relined-as-wide : decode wide sheet ≡ accepted net rest → Relined net (prints current sheet)
+  pub relined-as-wide : decode wide sheet ≡ accepted net rest → Relined net (prints trunked sheet)
   relined-as-wide e = other-lines sheet net rest (accepted-as-wide sheet net rest e)
 
 module _ (sheet : Bytes) (n : ℕ) (unmarked : n ≡ 8 → marked current sheet ≡ false) where
@@ -69,13 +75,46 @@ module _ (sheet : Bytes) (n : ℕ) (unmarked : n ≡ 8 → marked current sheet 
   refusal-as-wide e = ap (output current) (refused-as-wide sheet n unmarked e) ∙ sym (ap (output wide) e)
 
 -- F-9: "A sheet without the bit gets the panel reader's old answer"
-pub lines-unmarked : (sheet : Bytes) → (numberOf (decode tolerant sheet) ≡ 8 → marked current sheet ≡ false) → prints current sheet ≡ prints tolerant sheet
-lines-unmarked sheet other = ap (output current) (reads-before sheet other) ∙ same (decode tolerant sheet)
+pub lines-unmarked : (sheet : Bytes) → (numberOf (decode tolerant sheet) ≡ 8 → marked current sheet ≡ false) → prints trunked sheet ≡ prints tolerant sheet
+lines-unmarked sheet other = ap (output trunked) (sym (reads-as-trunked sheet) ∙ reads-before sheet other) ∙ same (decode tolerant sheet)
   where
-    same : (r : Reading Network) → output current r ≡ output tolerant r
+    same : (r : Reading Network) → output trunked r ≡ output tolerant r
     same (accepted net rest) = refl
     same (refused n) = refl
 
 -- F-9: "and answers as if the bit and field were not there"
 pub lines-plain : (sheet : Bytes) → cutOff sheet ≡ false → prints current (plain sheet) ≡ prints current sheet
 lines-plain sheet whole = ap (output current) (plain-same sheet whole)
+
+-- ---- F-6
+
+-- two answers with one verdict, weight and floor, of which the first cut has no more nodes
+pub record Reranked (lines older : Text) : Type 0 where
+  pub answered : Answer
+  pub before : Answer
+  pub lines-are : lines ≡ answerLines answered
+  pub older-are : older ≡ answerLines before
+  pub verdict : answered .verdict ≡ before .verdict
+  pub weight : answered .best .weight ≡ before .best .weight
+  pub floor : answered .floor ≡ before .floor
+  pub count-no-more : answered .best .count ≤ before .best .count
+
+-- every accepted sheet prints such lines, and every other the same
+pub lines-ranked : (sheet : Bytes) (net : Network) (rest : Bytes) → decode current sheet ≡ accepted net rest → Reranked (prints current sheet) (prints trunked sheet)
+unfolding answer judged
+lines-ranked sheet net rest e =
+    let v = decode-accepted current sheet net rest e .sound in
+    let same = ranks-agree net v longestRun fewerNodes alike in
+    record {
+      answered = answer (current .rules) net;
+      before = answer (trunked .rules) net;
+      lines-are = ap (output current) e;
+      older-are = ap (output trunked) (sym (reads-as-trunked sheet) ∙ e);
+      verdict = same .2;
+      weight = same .0;
+      floor = same .1;
+      count-no-more = count-no-more net v;
+    }
+
+pub refusal-ranked : (sheet : Bytes) (n : ℕ) → decode current sheet ≡ refused n → prints current sheet ≡ prints trunked sheet
+refusal-ranked sheet n e = ap (output current) e ∙ sym (ap (output trunked) (sym (reads-as-trunked sheet) ∙ e))

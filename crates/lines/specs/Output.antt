@@ -32,7 +32,7 @@ secondField (two e f) = decimal f
 abbrev pub answerFields : Answer → List Text
 answerFields a =
     decimal (a .verdict) ∷ decimal (a .best .weight) ∷ decimal (a .floor) ∷ decimal (a .best .tree)
-    ∷ decimal (firstLink (a .best .handle)) ∷ secondField (a .best .handle) ∷ decimal (a .count) ∷ []
+    ∷ decimal (firstLink (a .best .handle)) ∷ secondField (a .best .handle) ∷ decimal (a .best .count) ∷ []
 
 -- there are at most 256 nodes, and past its last node a side has no flag set
 unfoldable pub sideFields : Side → List Text
@@ -44,7 +44,7 @@ unfolding line sideFields
 answerLines a = line answerWord (answerFields a) ++ line sideWord (sideFields (a .best .side))
 
 abbrev pub output : Format → Reading Network → Text
-output f (accepted net rest) = answerLines (answer (f .counting) net)
+output f (accepted net rest) = answerLines (answer (f .rules) net)
 output f (refused n) = refusedLine n
 
 -- 75 for the first line with each field of the report area at its largest, 919 for the second with all 256 nodes

@@ -1,8 +1,8 @@
 -- What the entry promises, by which refusal comes first: of the side area, of the report area, or what the sheet decides.
 -- Assumes nothing.
+use mathlib.Core.List.{[]}
 use Prim.Native.Nat.{ℕ, _≤_, _<_}
 use mathlib.Core.Path.{_≡_, sym, ap, _∙_}
-use mathlib.Core.List.{[]}
 use native.Mathlib.Omega.{arith}
 use lib.ListN.{length}
 use borrow.Author.Tests.{lt-ltb, le-ltb}
@@ -34,15 +34,15 @@ module _ (f : Format) (sheet side report : Bytes) where
       reading-is = rw (le-ltb (length side) 32 enough, le-ltb (length report) (reportLength f) room)
 
       -- where what is owed of the answer is owed of the bytes written
-      pub sheet-decides : ((net : Network) → decode f sheet ≡ accepted net [] → Owed (f .counting) net (answerRead f (net .nodes) (sideAfter net side) (reportAfter f net report)))
-          → (side′ report′ : Bytes) (n : ℕ) → n ≡ numberOf (decode f sheet) → side′ ≡ sideLeft side (decode f sheet) → report′ ≡ reportLeft f report (decode f sheet)
+      pub sheet-decides : ((net : Network) → decode f sheet ≡ accepted net [] → Owed (f .rules) net (answerRead f (net .nodes) (sideAfter f net side) (reportAfter f net report)))
+          → (side′ report′ : Bytes) (n : ℕ) → n ≡ numberOf (decode f sheet) → side′ ≡ sideLeft f side (decode f sheet) → report′ ≡ reportLeft f report (decode f sheet)
           → Reported f sheet side report side′ report′ n
       sheet-decides owed side′ report′ n e s r = record {
         number = rw reading-is e;
         side-is = rw reading-is s;
         report-is = rw reading-is r;
         owed = λ z. let read = decode-zero f sheet (sym e ∙ z) in
-            let left : side′ ≡ sideAfter (read .0) side = s ∙ ap (sideLeft side) (read .1) in
+            let left : side′ ≡ sideAfter f (read .0) side = s ∙ ap (sideLeft f side) (read .1) in
             let right : report′ ≡ reportAfter f (read .0) report = r ∙ ap (reportLeft f report) (read .1) in
             (read .0, read .1, rw (left, right) (owed (read .0) (read .1)));
       }

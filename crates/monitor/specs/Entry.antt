@@ -1,7 +1,7 @@
 -- What the entry returns and leaves in the two areas, for every sheet and every pair of areas, by the format. Assumes nothing.
 --   areaChecks f side report      refusals 1 and 2, of the areas' lengths
 --   reading f sheet side report   the network of the sheet, or the first refusal: 1, 2, or the sheet's
---   sideLeft old r                a side area that held `old`, where r was the reading: the answer is written if a network was read
+--   sideLeft f old r              a side area that held `old`, where r was the reading: the answer is written if a network was read
 --   reportLeft f old r            the same of a report area
 --   Reported f ..                 all that the entry promises, where the areas held `side` and `report`, hold side′ and report′
 --                                 afterwards, and n is returned
@@ -24,9 +24,9 @@ unfoldable pub reading : Format → Bytes → Bytes → Bytes → Reading Networ
 unfolding firstFailing areaChecks decode
 reading f sheet side report = unless (firstFailing (areaChecks f side report)) (decode f sheet)
 
-abbrev pub sideLeft : Bytes → Reading Network → Bytes
-sideLeft old (accepted net rest) = sideAfter net old
-sideLeft old (refused n) = old
+abbrev pub sideLeft : Format → Bytes → Reading Network → Bytes
+sideLeft f old (accepted net rest) = sideAfter f net old
+sideLeft f old (refused n) = old
 
 abbrev pub reportLeft : Format → Bytes → Reading Network → Bytes
 reportLeft f old (accepted net rest) = reportAfter f net old
@@ -36,7 +36,7 @@ pub record Reported (f : Format) (sheet side report side′ report′ : Bytes) (
   -- demand 1: each refusal in just the situation and order listed for it
   pub number : n ≡ numberOf (reading f sheet side report)
   -- both areas hold what the definitions give, and are as they were after a refusal and behind the bytes written
-  pub side-is : side′ ≡ sideLeft side (reading f sheet side report)
+  pub side-is : side′ ≡ sideLeft f side (reading f sheet side report)
   pub report-is : report′ ≡ reportLeft f report (reading f sheet side report)
   -- demands 2 and 3, of the network that the sheet gives and of what is read back from the bytes of the areas
-  pub owed : n ≡ 0 → (net : Network) × (decode f sheet ≡ accepted net []) × Owed (f .counting) net (answerRead f (net .nodes) side′ report′)
+  pub owed : n ≡ 0 → (net : Network) × (decode f sheet ≡ accepted net []) × Owed (f .rules) net (answerRead f (net .nodes) side′ report′)

@@ -23,7 +23,7 @@ fn report_in(
     weights: &mut [u32],
 ) -> u32
     requires { ⌜ (32 ≤ length (now side)) × (reportLength current ≤ length (now report)) × EndArrays (now ends) × (length (now weights) ≡ 2048) ⌝ }
-    ensures { λ r. ⌜ (r ≡ numberOf (decode current (now (sheet .entry)))) × (now (side .exit) ≡ sideLeft (now (side .entry)) (decode current (now (sheet .entry))))
+    ensures { λ r. ⌜ (r ≡ numberOf (decode current (now (sheet .entry)))) × (now (side .exit) ≡ sideLeft current (now (side .entry)) (decode current (now (sheet .entry))))
         × (now (report .exit) ≡ reportLeft current (now (report .entry)) (decode current (now (sheet .entry)))) ⌝ }
 {
     match read_sheet(sheet, ends, weights) {

@@ -55,8 +55,8 @@ abbrev pub mostShares : ℕ
 mostShares = 32 * 4_294_967_295
 
 pub record Totals (net : Network) (ts : List Tree) (links : ℕ) (loads : List ℕ) (sum : ℕ) : Type 0 where
-  pub sums : sum ≡ shares (counted (current .counting) net ts)
-  pub bears : (k : ℕ) → k < links → entry loads k ≡ load (counted (current .counting) net ts) k
+  pub sums : sum ≡ shares (counted (current .rules .counting) net ts)
+  pub bears : (k : ℕ) → k < links → entry loads k ≡ load (counted (current .rules .counting) net ts) k
 
 pub record Counted (s : Bytes) (at links trees : ℕ) (ws loads : List ℕ) (sum : ℕ) : Type 0 where
   pub totals : (net : Network) → Weighed net ws links → Totals net (treesFrom net trees (drop at s)) links loads sum

@@ -105,7 +105,7 @@ fn floor(shares: u64, weight: u64) -> u64
 pub fn bound(s: &[u8], at: usize, links: usize, trees: usize, weights: &[u32], weight: u64) -> u64
     requires { ⌜ Records (now s) at links trees (now weights) ⌝ }
     ensures { λ r. ⌜ ((net : Network) → Weighed net (now (weights .entry)) links
-        → r ≡ floor (counted (current .counting) net (treesFrom net trees (drop at (now (s .entry))))) weight) ⌝ }
+        → r ≡ floor (counted (current .rules .counting) net (treesFrom net trees (drop at (now (s .entry))))) weight) ⌝ }
 {
     let mut loads = [0u32; 2048];
     let shares = count_trees(s, at, links, trees, weights, &mut loads);

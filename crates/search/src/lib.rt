@@ -7,13 +7,15 @@ use places::Places;
 use rows::gather;
 use rows::make_row;
 use rows::pair_weight;
+use sides::counts::pair_count;
+use sides::counts::single_count;
 ghost use mathlib.Core.Path.{_≡_};
 ghost use mathlib.Core.List.{List};
 ghost use Prim.Native.Nat.{ℕ, _+_, _≤_, _<_};
 ghost use lib.ListN.{length};
 ghost use Rattle.cuts.specs.First.{firstFrom};
 ghost use Rattle.cuts.specs.Network.{Network, Tree};
-ghost use Rattle.cuts.specs.Candidate.{Candidate, lighter};
+ghost use Rattle.cuts.specs.Candidate.{Candidate, fewerNodes, ahead};
 ghost use Rattle.cuts.specs.Limits.{Light};
 ghost use Rattle.trees.specs.Order.{entry, part};
 ghost use Rattle.trees.specs.Growing.{Within};
@@ -44,14 +46,18 @@ fn search_row(
     requires { ⌜ (length (now figures) ≡ 1025) × (length (now stops) ≡ 256) × Within (now stops) 256 257 × (length (now links) ≡ 256) × (nodes ≤ 256) × (0 < u) × (u < nodes) ⌝ }
     ensures { λ r. ⌜ ((net : Network) (t : Tree) (c : Candidate) (place node : List ℕ) → Light net → net .nodes ≡ nodes
         → Kept net t place node (now (stops .entry)) (now (links .entry)) → Row net t place (now (stops .entry)) (now (links .entry)) u (now (figures .entry))
-        → Reached lighter c net tree t (now (links .entry)) (u + 1) nodes before → Reached lighter c net tree t (now (links .entry)) u nodes r) ⌝ }
+        → Reached (ahead fewerNodes) c net tree t (now (links .entry)) (u + 1) nodes before → Reached (ahead fewerNodes) c net tree t (now (links .entry)) u nodes r) ⌝ }
 {
     let link = links[u];
-    let mut best = try_pair(before, tree, link, link, figures[513 + u]);
+    let below = single_count(stops, u);
+    let mut best = try_pair(before, tree, link, link, figures[513 + u], below);
     let mut v = u + 1;
     while v < nodes {
         let weight = pair_weight(figures, stops, u, v);
-        best = try_pair(best, tree, link, links[v], weight);
+        if weight <= best.weight {
+            let count = pair_count(stops, u, v);
+            best = try_pair(best, tree, link, links[v], weight, count);
+        }
         v += 1;
     }
     best
@@ -72,7 +78,7 @@ fn search_rows(
     requires { ⌜ AllByNode (part (now ends) 0) (part (now ends) 1) (starts (now lists)) (listed (now lists)) nodes × Within (p .node) 256 nodes × Within (p .stops) 256 257 ⌝ }
     ensures { λ r. ⌜ ((net : Network) (t : Tree) (c : Candidate) (links : ℕ) → Indexed net (now (ends .entry)) (now (weights .entry)) (now (lists .entry)) nodes links
         → Kept net t (p .place) (p .node) (p .stops) (p .links) → Weighted net (p .place) (degreesIn (now (figures .entry)))
-        → Prior lighter net tree t c → Says before c → Says r (firstFrom lighter c (treeCandidates net tree t))) ⌝ }
+        → Prior (ahead fewerNodes) net tree t c → Says before c → Says r (firstFrom (ahead fewerNodes) c (treeCandidates net tree t))) ⌝ }
 {
     let place = p.place;
     let node = p.node;
@@ -105,7 +111,7 @@ pub fn search_tree(
     requires { ⌜ AllByNode (part (now ends) 0) (part (now ends) 1) (starts (now lists)) (listed (now lists)) nodes × Within (p .node) 256 nodes × Within (p .stops) 256 257 ⌝ }
     ensures { λ r. ⌜ ((net : Network) (t : Tree) (c : Candidate) (links : ℕ) → Indexed net (now (ends .entry)) (now (weights .entry)) (now (lists .entry)) nodes links
         → Degrees net (now (degrees .entry)) → Kept net t (p .place) (p .node) (p .stops) (p .links)
-        → Prior lighter net tree t c → Says before c → Says r (firstFrom lighter c (treeCandidates net tree t))) ⌝ }
+        → Prior (ahead fewerNodes) net tree t c → Says before c → Says r (firstFrom (ahead fewerNodes) c (treeCandidates net tree t))) ⌝ }
 {
     let node = p.node;
     let mut figures = [0u64; 1025];

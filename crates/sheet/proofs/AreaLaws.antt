@@ -72,8 +72,7 @@ answerRead-written f nodes a side report e m l fit =
   where
     answerWith : Handle → Answer
     answerWith h = record {
-      best = record { tree = a .best .tree; handle = h; weight = a .best .weight; side = a .best .side };
-      count = a .count;
+      best = record { tree = a .best .tree; handle = h; weight = a .best .weight; count = a .best .count; side = a .best .side };
       floor = a .floor;
       verdict = a .verdict;
     }
@@ -88,7 +87,7 @@ fields-reportWidths f bs =
 
 module _ {f : Format} (net : Network) (v : Accepted f net) where
   abbrev given : Answer
-  given = answer (f .counting) net
+  given = answer (f .rules) net
 
   links-below : (h : Handle) → Fits net (treeAt net (given .best .tree)) h → LinksBelow noSecond h
   links-below (one e) m = let b = m .is-link in let c = v .links-most in omega arith
@@ -117,8 +116,8 @@ module _ {f : Format} (net : Network) (v : Accepted f net) where
   module _ (fits : (s : Side) → cutWeight net s < 256 ^ f .sumWidth) where
     answer-fitting : Fitting (reportWidths f) (reportFields given)
     answer-fitting =
-        let d2 = answer-demand2 net (v .sound) (f .counting) in
-        let d3 = answer-demand3 net (v .sound) (f .counting) in
+        let d2 = answer-demand2 net (v .sound) (f .rules) in
+        let d3 = answer-demand3 net (v .sound) (f .rules) in
         let n = v .nodes-most in
         let m = v .links-most in
         let t = v .trees-most in
@@ -133,16 +132,16 @@ module _ {f : Format} (net : Network) (v : Accepted f net) where
         (omega arith, (omega arith, (omega arith, (links .0, (links .1, (omega arith, (omega arith, tt)))))))
 
     -- what stands in the areas afterwards is the answer
-    pub answer-back : (side report : Bytes) → answerRead f (net .nodes) (sideAfter net side) (reportAfter f net report) ≡ answer (f .counting) net
+    pub answer-back : (side report : Bytes) → answerRead f (net .nodes) (sideAfter f net side) (reportAfter f net report) ≡ answer (f .rules) net
     unfolding answer judged
     answer-back side report =
-        let d2 = answer-demand2 net (v .sound) (f .counting) in
-        answerRead-written f (net .nodes) given side report (answer-demand3 net (v .sound) (f .counting) .proper .sized) (v .nodes-most)
+        let d2 = answer-demand2 net (v .sound) (f .rules) in
+        answerRead-written f (net .nodes) given side report (answer-demand3 net (v .sound) (f .rules) .proper .sized) (v .nodes-most)
         (links-below (given .best .handle) (d2 .links-fit)) answer-fitting
 
     -- and what is owed of the answer is owed of what stands there
-    pub areas-owed : (side report : Bytes) → Owed (f .counting) net (answerRead f (net .nodes) (sideAfter net side) (reportAfter f net report))
-    areas-owed side report = rw (answer-back side report) (answer-owed net (v .sound) (f .counting))
+    pub areas-owed : (side report : Bytes) → Owed (f .rules) net (answerRead f (net .nodes) (sideAfter f net side) (reportAfter f net report))
+    areas-owed side report = rw (answer-back side report) (answer-owed net (v .sound) (f .rules))
 
 -- ---- from the bytes of the sheet to the bytes of the areas
 
@@ -151,15 +150,15 @@ module _ (sheet : Bytes) (bytes : ByteSized sheet) (net : Network) (rest : Bytes
   weights-fit : (s : Side) → cutWeight net s < 256 ^ current .sumWidth
   weights-fit s = let m = side-most net (decode-light current refl sheet bytes net rest e .0) s in omega arith
 
-  pub sheet-back : answerRead current (net .nodes) (sideAfter net side) (reportAfter current net report) ≡ answer (current .counting) net
+  pub sheet-back : answerRead current (net .nodes) (sideAfter current net side) (reportAfter current net report) ≡ answer (current .rules) net
   sheet-back = answer-back net (decode-accepted current sheet net rest e) weights-fit side report
 
-  pub sheet-owed : Owed (current .counting) net (answerRead current (net .nodes) (sideAfter net side) (reportAfter current net report))
+  pub sheet-owed : Owed (current .rules) net (answerRead current (net .nodes) (sideAfter current net side) (reportAfter current net report))
   sheet-owed = areas-owed net (decode-accepted current sheet net rest e) weights-fit side report
 
 -- in document 01's format four bytes are enough, by the largest weight
 module _ (sheet : Bytes) (net : Network) (rest side report : Bytes) where
-  pub sold-owed : decode base sheet ≡ accepted net rest → Owed (base .counting) net (answerRead base (net .nodes) (sideAfter net side) (reportAfter base net report))
+  pub sold-owed : decode base sheet ≡ accepted net rest → Owed (base .rules) net (answerRead base (net .nodes) (sideAfter base net side) (reportAfter base net report))
   sold-owed e =
       let v = decode-accepted base sheet net rest e in
       areas-owed net v (λ s. let m = sides-most net v s in omega arith) side report

@@ -1,12 +1,11 @@
 -- Document 01's "Networks to try" and what else its words pin down, proved of the definitions together by computing tables.
---   Case             a sheet, the numbers of its answer line, with 65535 for `-`, and the nodes of its side line
+--   Lines            the numbers of an answer line, with 65535 for `-`, and the nodes of a side line
+--   Case             a sheet and its lines: of units already sold, and in force
 --   starred          the starred networks A to H, H with each of its shares
 --   others           network I, inherited fields, maps of a full byte and of two, and the largest numbers
 --   heavier          sheets with weights past document 01's limit
---   inAreas f bs     the sheet bs and what both areas of the format f hold after it, read back from their bytes
---   Recounted        a sheet, the numbers of its answer line by document 01's rule for the floor and by that of F-3, and the side line's
---   overloading      sheets whose trees load a link past its weight together
---   recounted bs     the sheet bs and these lines: in the format of F-2, and in that in force
+--   inAreas f bs     what both areas of the format f hold after the sheet bs, read back from their bytes
+--   overloading      sheets whose trees load a link past its weight together, and their lines by document 01's rule for the floor and in force
 --   Layout           a sheet and the bytes of both areas
 --   layouts          the bytes of both areas for A, E and F in document 01's format, in areas of 33 and 18 bytes that were full of nines
 --   wideLayouts      those for E, F and two sheets with heavier links in the format in force, the report area of 26 bytes
@@ -27,7 +26,7 @@ use Rattle.cuts.specs.Network.{Network, flag}
 use Rattle.cuts.specs.Answer.{Answer, answer}
 use Rattle.sheet.specs.Bytes.{Bytes}
 use Rattle.sheet.specs.Reading.{accepted, refused, numberOf}
-use Rattle.sheet.specs.Sheet.{Format, base, wide, tolerant, current, decode, sheetMost}
+use Rattle.sheet.specs.Sheet.{Format, base, wide, tolerant, trunked, current, decode, sheetMost}
 use Rattle.sheet.specs.Trunks.{trunks}
 use Rattle.sheet.specs.Plain.{plain}
 use Rattle.sheet.specs.Areas.{sideBytes, reportBytes, sideAfter, reportAfter, answerRead, firstLink, secondLink}
@@ -95,13 +94,23 @@ split trees = header 4 4 trees ++ link 0 1 1 ++ link 0 1 1 ++ link 1 2 1 ++ link
 
 -- ---- accepted
 
-pub record Case : Type 0 where
-  pub sheet : Bytes
-  line : List ℕ
+record Lines : Type 0 where
+  numbers : List ℕ
   nodes : List ℕ
 
+abbrev lines : List ℕ → List ℕ → Lines
+lines ns nodes = record { numbers = ns; nodes = nodes }
+
+pub record Case : Type 0 where
+  pub sheet : Bytes
+  sold : Lines
+  now : Lines
+
+abbrev changes : Bytes → Lines → Lines → Case
+changes bs sold now = record { sheet = bs; sold = sold; now = now }
+
 abbrev gives : Bytes → List ℕ → List ℕ → Case
-gives bs line nodes = record { sheet = bs; line = line; nodes = nodes }
+gives bs ns nodes = changes bs (lines ns nodes) (lines ns nodes)
 
 unfoldable pub starred : List Case
 starred =
@@ -109,14 +118,14 @@ starred =
     gives (triangle ++ tree 2 5) (2 ∷ 5 ∷ 5 ∷ 0 ∷ 0 ∷ 65535 ∷ 1 ∷ []) (1 ∷ [])
     -- B: the triangle with share 1
     ∷ gives (triangle ++ tree 1 5) (1 ∷ 5 ∷ 3 ∷ 0 ∷ 0 ∷ 65535 ∷ 1 ∷ []) (1 ∷ [])
-    -- C: a ring, share 1
-    ∷ gives (ring 1 ++ tree 1 7) (2 ∷ 2 ∷ 2 ∷ 0 ∷ 0 ∷ 65535 ∷ 3 ∷ []) (1 ∷ 2 ∷ 3 ∷ [])
-    -- D: the ring with share 0
-    ∷ gives (ring 1 ++ tree 0 7) (1 ∷ 2 ∷ 0 ∷ 0 ∷ 0 ∷ 65535 ∷ 3 ∷ []) (1 ∷ 2 ∷ 3 ∷ [])
+    -- C: a ring, share 1. F-6: "C to `answer 2 2 2 0 0 1 1`, `side 1`"
+    ∷ changes (ring 1 ++ tree 1 7) (lines (2 ∷ 2 ∷ 2 ∷ 0 ∷ 0 ∷ 65535 ∷ 3 ∷ []) (1 ∷ 2 ∷ 3 ∷ [])) (lines (2 ∷ 2 ∷ 2 ∷ 0 ∷ 0 ∷ 1 ∷ 1 ∷ []) (1 ∷ []))
+    -- D: the ring with share 0. "D to `answer 1 2 0 0 0 1 1`, `side 1`"
+    ∷ changes (ring 1 ++ tree 0 7) (lines (1 ∷ 2 ∷ 0 ∷ 0 ∷ 0 ∷ 65535 ∷ 3 ∷ []) (1 ∷ 2 ∷ 3 ∷ [])) (lines (1 ∷ 2 ∷ 0 ∷ 0 ∷ 0 ∷ 1 ∷ 1 ∷ []) (1 ∷ []))
     -- E: a ring whose lightest cut crosses two tree links
     ∷ gives (thickRing ++ tree 1 3) (2 ∷ 2 ∷ 2 ∷ 0 ∷ 0 ∷ 1 ∷ 1 ∷ []) (1 ∷ [])
-    -- F: a lighter side, of nodes 1 and 3, crosses three tree links
-    ∷ gives (ladder 1 ++ tree 1 7) (1 ∷ 11 ∷ 3 ∷ 0 ∷ 0 ∷ 65535 ∷ 3 ∷ []) (1 ∷ 2 ∷ 3 ∷ [])
+    -- F: a lighter side, of nodes 1 and 3, crosses three tree links. "F to `answer 1 11 3 0 2 - 1`, `side 3`"
+    ∷ changes (ladder 1 ++ tree 1 7) (lines (1 ∷ 11 ∷ 3 ∷ 0 ∷ 0 ∷ 65535 ∷ 3 ∷ []) (1 ∷ 2 ∷ 3 ∷ [])) (lines (1 ∷ 11 ∷ 3 ∷ 0 ∷ 2 ∷ 65535 ∷ 1 ∷ []) (3 ∷ []))
     -- G: a link of weight 0
     ∷ gives (bridge 0 ++ tree 7 1) (2 ∷ 0 ∷ 0 ∷ 0 ∷ 0 ∷ 65535 ∷ 1 ∷ []) (1 ∷ [])
     -- H: a link of weight 4, share 1
@@ -131,8 +140,8 @@ starred =
 
 others : List Case
 others =
-    -- I: the ring with a second tree, both shares 0
-    gives (ring 2 ++ tree 0 7 ++ tree 0 14) (1 ∷ 2 ∷ 0 ∷ 0 ∷ 0 ∷ 65535 ∷ 3 ∷ []) (1 ∷ 2 ∷ 3 ∷ [])
+    -- I: the ring with a second tree, both shares 0. "I to links 0 and 1, side {1}"
+    changes (ring 2 ++ tree 0 7 ++ tree 0 14) (lines (1 ∷ 2 ∷ 0 ∷ 0 ∷ 0 ∷ 65535 ∷ 3 ∷ []) (1 ∷ 2 ∷ 3 ∷ [])) (lines (1 ∷ 2 ∷ 0 ∷ 0 ∷ 0 ∷ 1 ∷ 1 ∷ []) (1 ∷ []))
     ∷ gives (inherited ++ tree 0 3) (1 ∷ 2 ∷ 0 ∷ 0 ∷ 0 ∷ 65535 ∷ 2 ∷ []) (1 ∷ 2 ∷ [])
     -- eight links with link 7 in the tree, and nine with link 8
     ∷ gives (parallel 8 (replicate 7 0) ++ tree 0 128) (1 ∷ 8 ∷ 0 ∷ 0 ∷ 7 ∷ 65535 ∷ 1 ∷ []) (1 ∷ [])
@@ -151,61 +160,56 @@ heavier =
     ∷ gives (largestPair 1 ++ largest ++ 1 ∷ []) (2 ∷ 8589934590 ∷ 8589934590 ∷ 0 ∷ 0 ∷ 65535 ∷ 1 ∷ []) (1 ∷ [])
     ∷ []
 
-abbrev caseOf : Bytes → Network → Answer → Case
-caseOf bs net a =
-    gives bs
+abbrev linesOf : Network → Answer → Lines
+linesOf net a =
+    lines
     (a .verdict ∷ a .best .weight ∷ a .floor ∷ a .best .tree ∷ firstLink (a .best .handle) ∷ secondLink (a .best .handle)
-    ∷ a .count ∷ [])
+    ∷ a .best .count ∷ [])
     (select (net .nodes) (flag (a .best .side)))
 
-inAreas : Format → Bytes → Case
+inAreas : Format → Bytes → Lines
 unfolding decode answer answerRead sideBytes reportBytes select
 inAreas f bs =
-    elim (decode f bs) [ accepted net rest ↦ caseOf bs net (answerRead f (net .nodes) (sideAfter net []) (reportAfter f net [])) | refused n ↦ gives bs (n ∷ []) [] ]
+    elim (decode f bs) [ accepted net rest ↦ linesOf net (answerRead f (net .nodes) (sideAfter f net []) (reportAfter f net [])) | refused n ↦ lines (n ∷ []) [] ]
 
-sold-reported : map (λ c. inAreas base (c .sheet)) (starred ++ others) ≡ starred ++ others
+sold-reported : map (λ c. inAreas base (c .sheet)) (starred ++ others) ≡ map (λ c. c .sold) (starred ++ others)
 unfolding starred others inAreas
 sold-reported = refl
 
-current-reported : map (λ c. inAreas current (c .sheet)) (starred ++ others ++ heavier) ≡ starred ++ others ++ heavier
+trunked-reported : map (λ c. inAreas trunked (c .sheet)) (starred ++ others ++ heavier) ≡ map (λ c. c .sold) (starred ++ others ++ heavier)
+unfolding starred others heavier inAreas
+trunked-reported = refl
+
+current-reported : map (λ c. inAreas current (c .sheet)) (starred ++ others ++ heavier) ≡ map (λ c. c .now) (starred ++ others ++ heavier)
 unfolding starred others heavier inAreas
 current-reported = refl
 
 -- ---- the trees that count
 
-record Recounted : Type 0 where
-  sheet : Bytes
-  sold : List ℕ
-  line : List ℕ
-  nodes : List ℕ
-
-abbrev recounts : Bytes → List ℕ → List ℕ → List ℕ → Recounted
-recounts bs sold line nodes = record { sheet = bs; sold = sold; line = line; nodes = nodes }
-
-overloading : List Recounted
+overloading : List Case
 overloading =
     -- F-3: "With 0-1:4 and two trees of shares 2 and 3 the floor rises from 0 to 4 and the verdict from 1 to 2"
-    recounts (bridges 4 2 ++ tree 2 1 ++ tree 3 1) (1 ∷ 4 ∷ 0 ∷ 0 ∷ 0 ∷ 65535 ∷ 1 ∷ []) (2 ∷ 4 ∷ 4 ∷ 0 ∷ 0 ∷ 65535 ∷ 1 ∷ []) (1 ∷ [])
+    changes (bridges 4 2 ++ tree 2 1 ++ tree 3 1) (lines (1 ∷ 4 ∷ 0 ∷ 0 ∷ 0 ∷ 65535 ∷ 1 ∷ []) (1 ∷ [])) (lines (2 ∷ 4 ∷ 4 ∷ 0 ∷ 0 ∷ 65535 ∷ 1 ∷ []) (1 ∷ []))
     -- the first tree overloads the link, and no later one counts
-    ∷ recounts (bridges 4 2 ++ tree 5 1 ++ tree 1 1) (1 ∷ 4 ∷ 0 ∷ 0 ∷ 0 ∷ 65535 ∷ 1 ∷ []) (1 ∷ 4 ∷ 0 ∷ 0 ∷ 0 ∷ 65535 ∷ 1 ∷ []) (1 ∷ [])
+    ∷ changes (bridges 4 2 ++ tree 5 1 ++ tree 1 1) (lines (1 ∷ 4 ∷ 0 ∷ 0 ∷ 0 ∷ 65535 ∷ 1 ∷ []) (1 ∷ [])) (lines (1 ∷ 4 ∷ 0 ∷ 0 ∷ 0 ∷ 65535 ∷ 1 ∷ []) (1 ∷ []))
     -- of two links of weight 9 the first is loaded with 1 and then with 9 more; behind that stand a share of 0 and a tree of the
     -- second link, which alone would fit
-    ∷ recounts (parallelNines 4 ++ tree 1 1 ++ tree 9 1 ++ tree 0 1 ++ tree 9 2) (1 ∷ 18 ∷ 0 ∷ 0 ∷ 0 ∷ 65535 ∷ 1 ∷ []) (1 ∷ 18 ∷ 3 ∷ 0 ∷ 0 ∷ 65535 ∷ 1 ∷ []) (1 ∷ [])
+    ∷ changes (parallelNines 4 ++ tree 1 1 ++ tree 9 1 ++ tree 0 1 ++ tree 9 2) (lines (1 ∷ 18 ∷ 0 ∷ 0 ∷ 0 ∷ 65535 ∷ 1 ∷ []) (1 ∷ [])) (lines (1 ∷ 18 ∷ 3 ∷ 0 ∷ 0 ∷ 65535 ∷ 1 ∷ []) (1 ∷ []))
     -- loads of 1 and 8, which are the weight, and then of 1 more
-    ∷ recounts (parallelNines 3 ++ tree 1 1 ++ tree 8 1 ++ tree 1 1) (1 ∷ 18 ∷ 0 ∷ 0 ∷ 0 ∷ 65535 ∷ 1 ∷ []) (2 ∷ 18 ∷ 18 ∷ 0 ∷ 0 ∷ 65535 ∷ 1 ∷ []) (1 ∷ [])
+    ∷ changes (parallelNines 3 ++ tree 1 1 ++ tree 8 1 ++ tree 1 1) (lines (1 ∷ 18 ∷ 0 ∷ 0 ∷ 0 ∷ 65535 ∷ 1 ∷ []) (1 ∷ [])) (lines (2 ∷ 18 ∷ 18 ∷ 0 ∷ 0 ∷ 65535 ∷ 1 ∷ []) (1 ∷ []))
     -- two links of the largest weight, and two trees of the largest share over one of them
-    ∷ recounts (largestPair 2 ++ largest ++ 1 ∷ largest ++ 1 ∷ []) (1 ∷ 8589934590 ∷ 0 ∷ 0 ∷ 0 ∷ 65535 ∷ 1 ∷ []) (2 ∷ 8589934590 ∷ 8589934590 ∷ 0 ∷ 0 ∷ 65535 ∷ 1 ∷ []) (1 ∷ [])
+    ∷ changes (largestPair 2 ++ largest ++ 1 ∷ largest ++ 1 ∷ []) (lines (1 ∷ 8589934590 ∷ 0 ∷ 0 ∷ 0 ∷ 65535 ∷ 1 ∷ []) (1 ∷ [])) (lines (2 ∷ 8589934590 ∷ 8589934590 ∷ 0 ∷ 0 ∷ 65535 ∷ 1 ∷ []) (1 ∷ []))
     -- F with a second tree, which does not count and is searched: below its link 1 lie nodes 1 and 3
-    ∷ recounts (ladder 2 ++ tree 1 7 ++ tree 9 26) (1 ∷ 3 ∷ 0 ∷ 1 ∷ 1 ∷ 65535 ∷ 2 ∷ []) (2 ∷ 3 ∷ 3 ∷ 1 ∷ 1 ∷ 65535 ∷ 2 ∷ []) (1 ∷ 3 ∷ [])
+    ∷ changes (ladder 2 ++ tree 1 7 ++ tree 9 26) (lines (1 ∷ 3 ∷ 0 ∷ 1 ∷ 1 ∷ 65535 ∷ 2 ∷ []) (1 ∷ 3 ∷ [])) (lines (2 ∷ 3 ∷ 3 ∷ 1 ∷ 1 ∷ 65535 ∷ 2 ∷ []) (1 ∷ 3 ∷ []))
     ∷ []
 
-recounted : Bytes → Recounted
-unfolding inAreas
-recounted bs = recounts bs (inAreas wide bs .line) (inAreas current bs .line) (inAreas current bs .nodes)
+overloading-sold : map (λ c. inAreas wide (c .sheet)) overloading ≡ map (λ c. c .sold) overloading
+unfolding overloading inAreas
+overloading-sold = refl
 
-overloading-recounted : map (λ r. recounted (r .sheet)) overloading ≡ overloading
-unfolding overloading recounted
-overloading-recounted = refl
+overloading-reported : map (λ c. inAreas current (c .sheet)) overloading ≡ map (λ c. c .now) overloading
+unfolding overloading inAreas
+overloading-reported = refl
 
 -- ---- the bytes of the areas
 
@@ -228,8 +232,8 @@ wideLayouts : List Layout
 wideLayouts =
     lays (thickRing ++ tree 1 3) (2 ∷ replicate 31 0 ++ 9 ∷ [])
     (2 ∷ 0 ∷ 1 ∷ 0 ∷ 0 ∷ 0 ∷ 1 ∷ 0 ∷ 2 ∷ 0 ∷ 0 ∷ 0 ∷ 0 ∷ 0 ∷ 0 ∷ 0 ∷ 2 ∷ 0 ∷ 0 ∷ 0 ∷ 0 ∷ 0 ∷ 0 ∷ 0 ∷ 9 ∷ 9 ∷ [])
-    ∷ lays (ladder 1 ++ tree 1 7) (14 ∷ replicate 31 0 ++ 9 ∷ [])
-    (1 ∷ 0 ∷ 3 ∷ 0 ∷ 0 ∷ 0 ∷ 255 ∷ 255 ∷ 11 ∷ 0 ∷ 0 ∷ 0 ∷ 0 ∷ 0 ∷ 0 ∷ 0 ∷ 3 ∷ 0 ∷ 0 ∷ 0 ∷ 0 ∷ 0 ∷ 0 ∷ 0 ∷ 9 ∷ 9 ∷ [])
+    ∷ lays (ladder 1 ++ tree 1 7) (8 ∷ replicate 31 0 ++ 9 ∷ [])
+    (1 ∷ 0 ∷ 1 ∷ 0 ∷ 2 ∷ 0 ∷ 255 ∷ 255 ∷ 11 ∷ 0 ∷ 0 ∷ 0 ∷ 0 ∷ 0 ∷ 0 ∷ 0 ∷ 3 ∷ 0 ∷ 0 ∷ 0 ∷ 0 ∷ 0 ∷ 0 ∷ 0 ∷ 9 ∷ 9 ∷ [])
     ∷ lays (header 2 1 1 ++ heavy 0 1 ++ tree 1 1) (2 ∷ replicate 31 0 ++ 9 ∷ [])
     (1 ∷ 0 ∷ 1 ∷ 0 ∷ 0 ∷ 0 ∷ 255 ∷ 255 ∷ 65 ∷ 66 ∷ 15 ∷ 0 ∷ 0 ∷ 0 ∷ 0 ∷ 0 ∷ 3 ∷ 0 ∷ 0 ∷ 0 ∷ 0 ∷ 0 ∷ 0 ∷ 0 ∷ 9 ∷ 9 ∷ [])
     -- a weight of 8,589,934,590, 2^33 - 2, and a floor of 6,442,450,944, 2^32 + 2^31
@@ -239,7 +243,7 @@ wideLayouts =
 
 laidOut : Format → ℕ → Bytes → Layout
 unfolding decode answer sideBytes reportBytes
-laidOut f n bs = elim (decode f bs) [ accepted net rest ↦ lays bs (sideAfter net (replicate 33 9)) (reportAfter f net (replicate n 9)) | refused n ↦ lays bs [] [] ]
+laidOut f n bs = elim (decode f bs) [ accepted net rest ↦ lays bs (sideAfter f net (replicate 33 9)) (reportAfter f net (replicate n 9)) | refused n ↦ lays bs [] [] ]
 
 layouts-written : map (λ l. laidOut base 18 (l .sheet)) layouts ≡ layouts
 unfolding layouts laidOut
@@ -286,12 +290,12 @@ unfolding trenches read
 trenches-read = refl
 
 -- both areas, or the refusal, are those of the sheet without them, but where a trunk number is cut off
-trenches-reported : map (λ c. inAreas current (c .sheet) .line) trenches
-    ≡ map (λ c. inAreas current (c .without) .line) (take 5 trenches) ++ (9 ∷ []) ∷ []
+trenches-reported : map (λ c. inAreas current (c .sheet) .numbers) trenches
+    ≡ map (λ c. inAreas current (c .without) .numbers) (take 5 trenches) ++ (9 ∷ []) ∷ []
 unfolding trenches inAreas
 trenches-reported = refl
 
-trenches-as-before : map (λ c. inAreas current (c .without) .line) trenches ≡ map (λ c. inAreas tolerant (c .without) .line) trenches
+trenches-as-before : map (λ c. inAreas current (c .without) .numbers) trenches ≡ map (λ c. inAreas tolerant (c .without) .numbers) trenches
 unfolding trenches inAreas
 trenches-as-before = refl
 

@@ -4,6 +4,7 @@ pub mod Acceptance
 pub mod Agree
 pub mod Sizes
 pub mod Raised
+pub mod Ruled
 pub mod Longest
 pub mod ComesTo
 pub mod MarkLaws

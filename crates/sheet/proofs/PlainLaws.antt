@@ -4,7 +4,7 @@
 use Prim.Native.Nat.{ℕ, zero, suc, _+_, _-_, _/_, _%_, _≤_, _<_}
 use mathlib.Core.Path.{_≡_, refl, sym, ap, ap₂, _∙_, subst}
 use mathlib.Core.Logic.{_⊎_, inl, inr}
-use mathlib.Core.Bool.{Bool, true, false, not, cond, and-eq-true-iff}
+use mathlib.Core.Bool.{Bool, true, false, cond, and-eq-true-iff}
 use mathlib.Core.List.{List, [], _∷_, _++_, append-nil}
 use native.Mathlib.Omega.{arith}
 use native.Mathlib.Decide.{decLe}
@@ -14,10 +14,11 @@ use lib.Dec.{eqb, leb}
 use borrow.Author.Tests.{eqb-true, ne-eqb, leb-true, le-ltb, lt-ltb}
 use Rattle.cuts.specs.Network.{Link, noLink}
 use Rattle.cuts.proofs.FlagLaws.{clash, neither, truth}
-use Rattle.sheet.specs.Bytes.{Bytes, number, bit}
+use Rattle.sheet.specs.Bytes.{Bytes}
 use Rattle.sheet.specs.Reading.{check, firstFailing, Reading, accepted, refused, numberOf, unless, andThen, records}
-use Rattle.sheet.specs.Sheet.{tolerant, trunked, Counts, countsIn, countChecks, headerRecord, fieldStart, recordLength, field, linkIn, valueChecks, linkRecord, nextLink, treesBehind, decodeBody, decode, wrongMap}
+use Rattle.sheet.specs.Sheet.{tolerant, trunked, current, Counts, countsIn, countChecks, headerRecord, fieldStart, recordLength, linkIn, valueChecks, linkRecord, nextLink, treesBehind, decodeBody, decode, wrongMap}
 use Rattle.sheet.specs.Plain.{trunkMarked, whenRead, comesTo, linkComesTo, marked, trunkCut, cutOff, unmarked, plainRecord, plainLinks, plain}
+use Rattle.sheet.proofs.Ruled.{decode-ruled}
 use Rattle.sheet.proofs.ReadingLaws.{unless-accepted, Never, unless-never, andThen-never, never-number}
 use Rattle.sheet.proofs.Acceptance.{trees-never}
 use Rattle.sheet.proofs.Sizes.{linkRecord-is}
@@ -136,8 +137,8 @@ decode-plain sheet h = step (decLe 5 (length sheet))
         ∙ ap (λ (z : Reading Counts). andThen z (decodeBody tolerant)) e ∙ sym (ap (λ (z : Reading Counts). andThen z (decodeBody trunked)) e)
 
 -- where one is, the number is 9
-pub decode-cut : (sheet : Bytes) → cutOff sheet ≡ true → decode trunked sheet ≡ refused 9
-decode-cut = decode-stopped trunked trunkCut 9 stop
+pub decode-cut : (sheet : Bytes) → cutOff sheet ≡ true → decode current sheet ≡ refused 9
+decode-cut sheet h = decode-ruled trunked (current .rules) sheet ∙ decode-stopped trunked trunkCut 9 stop sheet h
   where
     is : (r : Reading Link) → numberOf r ≡ 9 → r ≡ refused 9
     is (accepted x rest) e = absurd (omega arith)
@@ -305,15 +306,15 @@ plain-unmarked sheet = step (decLe 5 (length sheet))
         ap (λ (bs : Bytes). marks (headerRecord bs)) (plain-short sheet s) ∙ ap marks (headerRecord-short sheet s)
 
 -- so both readers read it alike
-pub plain-read : (sheet : Bytes) → decode trunked (plain sheet) ≡ decode tolerant (plain sheet)
-plain-read sheet = decode-unmarked (plain sheet) (plain-unmarked sheet)
+pub plain-read : (sheet : Bytes) → decode current (plain sheet) ≡ decode tolerant (plain sheet)
+plain-read sheet = decode-ruled trunked (current .rules) (plain sheet) ∙ decode-unmarked (plain sheet) (plain-unmarked sheet)
 
 -- ---- what is read with them and without
 
 -- "and answers as if the bit and field were not there"
-pub plain-same : (sheet : Bytes) → cutOff sheet ≡ false → decode trunked (plain sheet) ≡ decode trunked sheet
-plain-same sheet h = plain-read sheet ∙ decode-plain sheet h
+pub plain-same : (sheet : Bytes) → cutOff sheet ≡ false → decode current (plain sheet) ≡ decode current sheet
+plain-same sheet h = plain-read sheet ∙ decode-plain sheet h ∙ sym (decode-ruled trunked (current .rules) sheet)
 
 -- the one exception is exact: "A trunk number cut off by the sheet's end is 9", and without it the number is another, or none
-pub cut-other : (sheet : Bytes) → cutOff sheet ≡ true → numberOf (decode trunked (plain sheet)) ≡ 9 → ⊥
+pub cut-other : (sheet : Bytes) → cutOff sheet ≡ true → numberOf (decode current (plain sheet)) ≡ 9 → ⊥
 cut-other sheet h e = never-number 9 (decode tolerant (plain sheet)) (omega arith) (plain-cut sheet h) (sym (ap numberOf (plain-read sheet)) ∙ e)

@@ -9,16 +9,16 @@ use lib.ListN.{length, getD, drop}
 use lib.Dec.{eqb, leb, ltb}
 use borrow.Author.Tests.{ltb-false, le-ltb}
 use Rattle.cuts.specs.Network.{Link, noLink}
-use Rattle.cuts.specs.Bound.{Counting}
+use Rattle.cuts.specs.Answer.{Rules}
 use Rattle.sheet.specs.Bytes.{Bytes}
 use Rattle.sheet.specs.Reading.{Check, check, firstFailing, Reading, accepted, unless, records}
 use Rattle.sheet.specs.Sheet.{Format, headerRecord, fieldStart, recordLength, field, linkIn, shapeChecks, valueChecks, linkRecord, nextLink, treesBehind, decodeBody, decode}
 use Rattle.sheet.proofs.ReadingLaws.{unless-append}
 use Rattle.sheet.proofs.Agree.{Agree, agree-via, agree-unless, agree-andThen, agree-records}
 
-module _ (f : Format) (most total : ℕ) (rule : Counting) (more : f .weightLimit ≤ most) where
+module _ (f : Format) (most total : ℕ) (rules : Rules) (more : f .weightLimit ≤ most) where
   abbrev raised : Format
-  raised = record { widths = f .widths; weightLimit = most; sumWidth = total; counting = rule }
+  raised = record { widths = f .widths; weightLimit = most; sumWidth = total; rules = rules }
 
   weight-agree : {A : Type 0} (w : ℕ) (r : Reading A)
       → Agree 11 (unless (firstFailing (check 11 (ltb (f .weightLimit) w) ∷ [])) r) (unless (firstFailing (check 11 (ltb most w) ∷ [])) r)

@@ -1,30 +1,44 @@
--- Units already sold, and requests F-2, F-3 and F-9. F-2: what document 01's format accepts is accepted with the same network, and each of
+-- Units already sold, and requests F-2, F-3, F-9 and F-6. F-2: what document 01's format accepts is accepted with the same network, and each of
 -- its refusals other than 11 is given; 11 never is, and eight bytes hold the sums. F-3: every sheet reads as in the format of F-2, and
 -- where its trees are a packing the report area holds the same bytes. F-9: every sheet reads as before, unless a link record that units
--- already sold come to has bit 3, and then they refuse it by 8; what they accept has trunk number 0 for each link. Assumes nothing.
+-- already sold come to has bit 3, and then they refuse it by 8; what they accept has trunk number 0 for each link. F-6: every sheet reads
+-- as in the format of F-9, and of the report area only tree, number of nodes and links may differ. Assumes nothing.
 use Prim.Native.Nat.{ℕ, _*_, _^_, _<_}
-use mathlib.Core.Path.{_≡_, refl, sym, ap, _∙_}
+use mathlib.Core.List.{[], _∷_, _++_}
+use mathlib.Core.Path.{_≡_, refl, sym, ap, ap₂, _∙_}
 use mathlib.Core.Logic.{_⊎_, inl, inr}
 use mathlib.Core.Bool.{true, false}
 use native.Mathlib.Omega.{arith}
-use lib.ListN.{replicate}
+use lib.ListN.{take, drop, replicate}
 use Rattle.cuts.specs.Network.{Network, linkCount}
 use Rattle.cuts.specs.Cut.{Side, cutWeight}
-use Rattle.cuts.specs.Bound.{shares, Packed}
+use Rattle.cuts.specs.Tree.{Sound}
+use Rattle.cuts.specs.Candidate.{alike, fewerNodes}
+use Rattle.cuts.specs.Bound.{shares, Packed, longestRun}
 use Rattle.cuts.proofs.FlagLaws.{truth}
 use Rattle.cuts.proofs.LimitLaws.{side-fits, shares-fit}
-use Rattle.cuts.proofs.Sold.{answer-before}
-use Rattle.sheet.specs.Bytes.{Bytes, ByteSized}
+use Rattle.cuts.proofs.Sold.{answer-before, ranks-agree}
+use Rattle.sheet.specs.Bytes.{Bytes, ByteSized, bytesOf, fieldBytes}
 use Rattle.sheet.specs.Reading.{accepted, refused, numberOf}
-use Rattle.sheet.specs.Sheet.{base, wide, tolerant, current, fieldStart, field, linkIn, shapeChecks, valueChecks, linkRecord, decodeBody, decode}
+use Rattle.sheet.specs.Sheet.{base, wide, tolerant, trunked, current, decode}
 use Rattle.sheet.specs.Areas.{reportBytes, reportAfter}
 use Rattle.sheet.specs.Trunks.{trunks}
 use Rattle.sheet.specs.Plain.{marked}
 use Rattle.sheet.proofs.Sizes.{decode-light, decode-below}
 use Rattle.sheet.proofs.Agree.{Agree}
 use Rattle.sheet.proofs.Raised.{decode-raised}
+use Rattle.sheet.proofs.Ruled.{decode-ruled, marked-ruled, trunks-ruled}
 use Rattle.sheet.proofs.MarkLaws.{marked-same, decode-unmarked, decode-marked}
 use Rattle.sheet.proofs.TrunkLaws.{trunks-unmarked}
+
+-- ---- the order of candidates
+
+pub reads-as-trunked : (sheet : Bytes) → decode current sheet ≡ decode trunked sheet
+reads-as-trunked = decode-ruled trunked (current .rules)
+
+-- nor does the crew's reader read another trunk number
+pub trunks-as-trunked : (sheet : Bytes) → trunks current sheet ≡ trunks trunked sheet
+trunks-as-trunked = trunks-ruled trunked (current .rules)
 
 -- ---- bit 3
 
@@ -45,23 +59,21 @@ module _ (sheet : Bytes) where
   unmarked-unless other = step (truth (marked tolerant sheet))
     where
       step : (marked tolerant sheet ≡ true) ⊎ (marked tolerant sheet ≡ false) → marked tolerant sheet ≡ false
-      step (inl e) = sym (marked-same sheet) ∙ other (ap numberOf (tolerant-marked sheet e))
+      step (inl e) = sym (marked-same sheet) ∙ sym (marked-ruled trunked (current .rules) sheet) ∙ other (ap numberOf (tolerant-marked sheet e))
       step (inr e) = e
 
   -- "A sheet without the bit gets the panel reader's old answer"
   pub reads-before : (numberOf (decode tolerant sheet) ≡ 8 → marked current sheet ≡ false) → decode current sheet ≡ decode tolerant sheet
-  reads-before other = decode-unmarked sheet (unmarked-unless other)
+  reads-before other = reads-as-trunked sheet ∙ decode-unmarked sheet (unmarked-unless other)
 
 -- ---- the formats of F-3, F-2 and document 01
 
--- the three formats read the same fields, and the rule for the floor changes no network
 pub reads-as-wide : (sheet : Bytes) → decode tolerant sheet ≡ decode wide sheet
-unfolding decode decodeBody linkRecord linkIn field fieldStart shapeChecks valueChecks
-reads-as-wide sheet = refl
+reads-as-wide = decode-ruled wide (tolerant .rules)
 
 -- but for 11 the outcome of document 01's format is that of F-2
 raised-same : (sheet : Bytes) → Agree 11 (decode base sheet) (decode tolerant sheet)
-raised-same = decode-raised base (tolerant .weightLimit) (tolerant .sumWidth) (tolerant .counting) (omega arith)
+raised-same = decode-raised base (tolerant .weightLimit) (tolerant .sumWidth) (tolerant .rules) (omega arith)
 
 module _ (sheet : Bytes) (net : Network) (rest : Bytes) where
   -- what units already sold accept is accepted with the same network
@@ -82,7 +94,7 @@ module _ (sheet : Bytes) (net : Network) (rest : Bytes) where
   pub no-trunks-as-tolerant : decode tolerant sheet ≡ accepted net rest → trunks current sheet ≡ accepted (replicate (linkCount net) 0) rest
   no-trunks-as-tolerant e =
       trunks-unmarked current sheet net rest
-      (marked-same sheet ∙ unmarked-unless sheet (λ q. absurd (let z = sym (ap numberOf e) ∙ q in omega arith))) (accepted-as-tolerant e)
+      (marked-ruled trunked (current .rules) sheet ∙ marked-same sheet ∙ unmarked-unless sheet (λ q. absurd (let z = sym (ap numberOf e) ∙ q in omega arith))) (accepted-as-tolerant e)
 
   pub no-trunks-before : decode base sheet ≡ accepted net rest → trunks current sheet ≡ accepted (replicate (linkCount net) 0) rest
   no-trunks-before e = no-trunks-as-tolerant (raised e)
@@ -114,6 +126,16 @@ sums-fit sheet h net rest e = let l = decode-light current refl sheet h net rest
 
 -- ---- F-3
 
-pub report-before : (net : Network) → Packed net (net .trees) → (old : Bytes) → reportAfter current net old ≡ reportAfter wide net old
+pub report-before : (net : Network) → Packed net (net .trees) → (old : Bytes) → reportAfter trunked net old ≡ reportAfter wide net old
 unfolding reportBytes
-report-before net p old = rw (answer-before net p)
+report-before net p old = rw (answer-before alike net p)
+
+-- ---- F-6
+
+-- the verdict, which is byte 0, and the bytes from 8 on: weight, floor, and whatever stands behind them
+pub report-ranked : (net : Network) → Sound net → (old : Bytes) → let new = reportAfter current net old in let older = reportAfter trunked net old in
+    (take 1 new ≡ take 1 older) × (drop 8 new ≡ drop 8 older)
+unfolding reportBytes fieldBytes
+report-ranked net v old =
+    let same = ranks-agree net v longestRun fewerNodes alike in
+    (ap (bytesOf 1) (same .2), ap₂ (λ (w f : ℕ). fieldBytes (8 ∷ 8 ∷ []) (w ∷ f ∷ []) ++ drop 24 old) (same .0) (same .1))

@@ -6,7 +6,7 @@
 --   reportFields a             verdict, tree, nodes in the side, first link, second link, weight, floor
 --   reportBytes f a            the bytes of the report area
 --   written new old            an area that held `old`, with `new` written to its front: the rest stands as it stood
---   sideAfter net old          the side area after the answer of the network is written
+--   sideAfter f net old        the side area after the answer of the network is written
 --   reportAfter f net old      the report area after it
 --   sideRead nodes area        the side that stands in a side area
 --   handleOf e f               the handle whose links these are
@@ -48,7 +48,7 @@ secondLink (two e f) = f
 
 abbrev pub reportFields : Answer → List ℕ
 reportFields a =
-    a .verdict ∷ a .best .tree ∷ a .count ∷ firstLink (a .best .handle) ∷ secondLink (a .best .handle)
+    a .verdict ∷ a .best .tree ∷ a .best .count ∷ firstLink (a .best .handle) ∷ secondLink (a .best .handle)
     ∷ a .best .weight ∷ a .floor ∷ []
 
 unfoldable pub reportBytes : Format → Answer → Bytes
@@ -58,11 +58,11 @@ reportBytes f a = fieldBytes (reportWidths f) (reportFields a)
 abbrev pub written : Bytes → Bytes → Bytes
 written new old = new ++ drop (length new) old
 
-abbrev pub sideAfter : Network → Bytes → Bytes
-sideAfter net old = written (sideBytes (reported net .side)) old
+abbrev pub sideAfter : Format → Network → Bytes → Bytes
+sideAfter f net old = written (sideBytes (reported (f .rules .rank) net .side)) old
 
 abbrev pub reportAfter : Format → Network → Bytes → Bytes
-reportAfter f net old = written (reportBytes f (answer (f .counting) net)) old
+reportAfter f net old = written (reportBytes f (answer (f .rules) net)) old
 
 -- ---- reading back
 
@@ -75,8 +75,7 @@ handleOf e f = cond (eqb f noSecond) (one e) (two e f)
 
 abbrev pub answerOf : List ℕ → Side → Answer
 answerOf fs s = record {
-  best = record { tree = getD fs 1 0; handle = handleOf (getD fs 3 0) (getD fs 4 0); weight = getD fs 5 0; side = s };
-  count = getD fs 2 0;
+  best = record { tree = getD fs 1 0; handle = handleOf (getD fs 3 0) (getD fs 4 0); weight = getD fs 5 0; count = getD fs 2 0; side = s };
   floor = getD fs 6 0;
   verdict = getD fs 0 0;
 }

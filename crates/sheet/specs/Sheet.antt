@@ -1,12 +1,12 @@
 -- The serialised network: from its bytes to the network or the number of the first refusal, 3 to 16 (document 01, "The link sheet",
 -- "Why a sheet is turned down"). Assumes nothing.
 --   Format                       the widths of the fields behind a map byte, one for each bit of the map; the largest weight; the bytes
---                                that the report area has for the weight of a side and for the floor, each; and the rule by which
---                                trees count for the floor
+--                                that the report area has for the weight of a side and for the floor, each; and the rules of answers
 --   base                         document 01's format, of units already sold
 --   wide                         the format of request F-2
 --   tolerant                     the format of request F-3
 --   trunked                      the format of request F-9
+--   smallFirst                   the format of request F-6
 --   current                      the format in force
 --   Counts                       how many nodes, links and trees there are
 --   countsIn sheet               the header's three counts
@@ -45,7 +45,9 @@ use lib.Dec.{eqb, ltb, leb}
 use Rattle.cuts.specs.Sums.{sumTo, only, countTo, anyTo, table}
 use Rattle.cuts.specs.Network.{Link, Tree, Network, noLink, linkAt, linkCount, treeAt}
 use Rattle.cuts.specs.Tree.{Sound, spans}
-use Rattle.cuts.specs.Bound.{Counting, allOrNone, longestRun}
+use Rattle.cuts.specs.Candidate.{alike, fewerNodes}
+use Rattle.cuts.specs.Bound.{allOrNone, longestRun}
+use Rattle.cuts.specs.Answer.{Rules}
 use Rattle.sheet.specs.Bytes.{Bytes, number, bit, mapBit}
 use Rattle.sheet.specs.Reading.{Check, check, firstFailing, Reading, accepted, unless, andThen, records}
 
@@ -53,25 +55,39 @@ pub record Format : Type 0 where
   pub widths : List ℕ
   pub weightLimit : ℕ
   pub sumWidth : ℕ
-  pub counting : Counting
+  pub rules : Rules
 
 abbrev pub base : Format
-base = record { widths = 2 ∷ 2 ∷ 4 ∷ []; weightLimit = 1_000_000; sumWidth = 4; counting = allOrNone }
+base = record { widths = 2 ∷ 2 ∷ 4 ∷ []; weightLimit = 1_000_000; sumWidth = 4; rules = record { counting = allOrNone; rank = alike } }
 
 -- "Every 4-byte weight is allowed. Weights of sides and the floor become 8-byte numbers"
 abbrev pub wide : Format
-wide = record { widths = base .widths; weightLimit = 4_294_967_295; sumWidth = 8; counting = base .counting }
+wide = record { widths = base .widths; weightLimit = 4_294_967_295; sumWidth = 8; rules = base .rules }
 
 -- "From now on the trees that count are the longest run from tree 0 on that loads no link past its weight"
 abbrev pub tolerant : Format
-tolerant = record { widths = wide .widths; weightLimit = wide .weightLimit; sumWidth = wide .sumWidth; counting = longestRun }
+tolerant = record {
+  widths = wide .widths;
+  weightLimit = wide .weightLimit;
+  sumWidth = wide .sumWidth;
+  rules = record { counting = longestRun; rank = wide .rules .rank };
+}
 
 -- "Bit 3 of a link's map adds a 2-byte trunk number after the weight"
 abbrev pub trunked : Format
-trunked = record { widths = 2 ∷ 2 ∷ 4 ∷ 2 ∷ []; weightLimit = tolerant .weightLimit; sumWidth = tolerant .sumWidth; counting = tolerant .counting }
+trunked = record { widths = 2 ∷ 2 ∷ 4 ∷ 2 ∷ []; weightLimit = tolerant .weightLimit; sumWidth = tolerant .sumWidth; rules = tolerant .rules }
+
+-- "so the order is weight, fewer nodes in the side, tree, first link, single before pair, second link"
+abbrev pub smallFirst : Format
+smallFirst = record {
+  widths = trunked .widths;
+  weightLimit = trunked .weightLimit;
+  sumWidth = trunked .sumWidth;
+  rules = record { counting = trunked .rules .counting; rank = fewerNodes };
+}
 
 abbrev pub current : Format
-current = trunked
+current = smallFirst
 
 -- ---- header
 

@@ -1,4 +1,6 @@
-// A side as marks, one a node, made from the places of a tree.
+// A side as marks, one a node, and its number of nodes, made from the places of a tree.
+pub mod counts; // the number of nodes
+
 use places::Places;
 ghost use mathlib.Core.Path.{_≡_};
 ghost use mathlib.Core.Bool.{xor};

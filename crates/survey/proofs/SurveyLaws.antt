@@ -9,32 +9,32 @@ use native.Mathlib.Numerals.{add-one}
 use native.Mathlib.Omega.{arith}
 use lib.ListN.{length, drop}
 use lib.Seq.{drop-length, drop-cons}
-use borrow.Author.Tests.{lt-ltb}
+use lib.Dec.{ltb}
 use Rattle.cuts.specs.First.{firstFrom}
 use Rattle.cuts.specs.Network.{Tree, Network, noTree, treeAt}
 use Rattle.cuts.specs.Cut.{cutWeight}
 use Rattle.cuts.specs.Tree.{Sound}
 use Rattle.cuts.specs.Limits.{Light}
-use Rattle.cuts.specs.Candidate.{Candidate, candidate, candidatesFrom, candidates, lighter, noCandidate, sideOf}
+use Rattle.cuts.specs.Candidate.{Candidate, candidate, candidatesFrom, candidates, fewerNodes, ahead, noCandidate, sideOf}
 use Rattle.cuts.specs.Answer.{reported}
 use Rattle.cuts.proofs.CutLaws.{weightOf-is}
 use Rattle.cuts.proofs.LimitLaws.{side-most}
 use Rattle.cuts.proofs.Least.{firstFrom-firstOf, firstFrom-append}
 use Rattle.cuts.proofs.Handles.{candidate-of, candidate-in}
-use Rattle.cuts.proofs.Demands.{some-candidate}
+use Rattle.cuts.proofs.ThenLaws.{by-number-in}
+use Rattle.cuts.proofs.Demands.{ahead-weighing, some-candidate}
 use Rattle.choice.specs.Choice.{Says, Prior, Visited, treeCandidates, unfound}
 use Rattle.choice.specs.declared.Found.{Found}
-use Rattle.choice.proofs.PrecedesLaws.{lighter-order}
 use Rattle.choice.proofs.TreeLaws.{prior-visited, visited-more}
 
 -- no candidate is as heavy as where a search starts
-lighter-unfound : (net : Network) → Light net → (c : Candidate) → List·Memᴰ c (candidates net) → lighter c unfound ≡ true
-unfolding lighter candidate
-lighter-unfound net l c m =
+ahead-unfound : (net : Network) → Light net → (c : Candidate) → List·Memᴰ c (candidates net) → ahead fewerNodes c unfound ≡ true
+unfolding ahead candidate
+ahead-unfound net l c m =
     let t : Tree = treeAt net (c .tree) in
     let e : c .weight ≡ cutWeight net (sideOf net t (c .handle)) = ap (λ (x : Candidate). x .weight) (candidate-of net c m .is) ∙ weightOf-is net t (c .handle) in
     let w = side-most net l (sideOf net t (c .handle)) in
-    lt-ltb (c .weight) 18_446_744_073_709_551_615 (omega arith)
+    by-number-in (λ c. c .weight) (λ c d. ltb (fewerNodes c) (fewerNodes d)) c unfound (inl (omega arith))
 
 -- those of one tree, then those of the trees behind it
 candidatesFrom-drop : (net : Network) (i : ℕ) → i < length (net .trees)
@@ -47,7 +47,7 @@ pub record Visiting (net : Network) (best : Found) (i : ℕ) : Type 0 where
   pub so-far : Candidate
   pub says : Says best so-far
   pub visited : Visited net unfound i so-far
-  pub leads : firstFrom lighter so-far (candidatesFrom net i (drop i (net .trees))) ≡ reported net
+  pub leads : firstFrom (ahead fewerNodes) so-far (candidatesFrom net i (drop i (net .trees))) ≡ reported fewerNodes net
 
 module _ (net : Network) (sound : Sound net) (light : Light net) {best : Found} where
   pub trees-start : Says best unfound → Visiting net best 0
@@ -56,28 +56,28 @@ module _ (net : Network) (sound : Sound net) (light : Light net) {best : Found} 
     so-far = unfound;
     says = h;
     visited = inl refl;
-    leads = firstFrom-firstOf lighter noCandidate unfound (candidates net) (some-candidate net sound .1) (lighter-unfound net light);
+    leads = firstFrom-firstOf (ahead fewerNodes) noCandidate unfound (candidates net) (some-candidate net sound .1) (ahead-unfound net light);
   }
 
   -- a tree searched
   pub trees-more : (i : ℕ) → i < length (net .trees) → {next : Found} → Visiting net best i
-      → ((c : Candidate) → Prior lighter net i (treeAt net i) c → Says best c → Says next (firstFrom lighter c (treeCandidates net i (treeAt net i))))
+      → ((c : Candidate) → Prior (ahead fewerNodes) net i (treeAt net i) c → Says best c → Says next (firstFrom (ahead fewerNodes) c (treeCandidates net i (treeAt net i))))
       → Visiting net next (i + 1)
   trees-more i b w h =
       let c : Candidate = w .so-far in
       let t : Tree = treeAt net i in
       let xs : List Candidate = treeCandidates net i t in
       let ys : List Candidate = candidatesFrom net (i + 1) (drop (i + 1) (net .trees)) in
-      let p : Prior lighter net i t c = prior-visited lighter net unfound i b c (w .visited) (λ g f. lighter-unfound net light (candidate net i t g) (candidate-in net i g b f)) in
+      let p : Prior (ahead fewerNodes) net i t c = prior-visited (ahead fewerNodes) net unfound i b c (w .visited) (λ g f. ahead-unfound net light (candidate net i t g) (candidate-in net i g b f)) in
       record {
-        so-far = firstFrom lighter c xs;
+        so-far = firstFrom (ahead fewerNodes) c xs;
         says = h c p (w .says);
-        visited = visited-more lighter net unfound i b c (w .visited) lighter-order;
-        leads = sym (firstFrom-append lighter c xs ys) ∙ ap (firstFrom lighter c) (sym (candidatesFrom-drop net i b)) ∙ w .leads;
+        visited = visited-more (ahead fewerNodes) net unfound i b c (w .visited) (ahead-weighing fewerNodes .order);
+        leads = sym (firstFrom-append (ahead fewerNodes) c xs ys) ∙ ap (firstFrom (ahead fewerNodes) c) (sym (candidatesFrom-drop net i b)) ∙ w .leads;
       }
 
-  pub trees-done : (i : ℕ) → i ≡ length (net .trees) → Visiting net best i → Says best (reported net)
+  pub trees-done : (i : ℕ) → i ≡ length (net .trees) → Visiting net best i → Says best (reported fewerNodes net)
   unfolding candidatesFrom firstFrom
   trees-done i e w =
       let none : drop i (net .trees) ≡ [] = ap (λ (k : ℕ). drop k (net .trees)) e ∙ drop-length (net .trees) in
-      subst (Says best) (ap (λ (ts : List Tree). firstFrom lighter (w .so-far) (candidatesFrom net i ts)) (sym none) ∙ w .leads) (w .says)
+      subst (Says best) (ap (λ (ts : List Tree). firstFrom (ahead fewerNodes) (w .so-far) (candidatesFrom net i ts)) (sym none) ∙ w .leads) (w .says)

@@ -15,7 +15,7 @@ ghost use Rattle.cuts.specs.Sums.{countTo};
 ghost use Rattle.cuts.specs.First.{firstFrom};
 ghost use Rattle.cuts.specs.Network.{Network, Tree, linkCount, treeAt};
 ghost use Rattle.cuts.specs.Tree.{Spanning};
-ghost use Rattle.cuts.specs.Candidate.{Candidate, Fits, lighter, sideOf};
+ghost use Rattle.cuts.specs.Candidate.{Candidate, Fits, fewerNodes, ahead, sideOf};
 ghost use Rattle.cuts.specs.Answer.{reported};
 ghost use Rattle.trees.specs.Order.{part};
 ghost use Rattle.trees.specs.Growing.{Within, EndArrays, Held};
@@ -65,15 +65,15 @@ fn search_record(
     requires { ⌜ (length (now weights) ≡ 2048) × (length (now lists) ≡ 4353) × (length (now degrees) ≡ 256)
         × AllByNode (part (now ends) 0) (part (now ends) 1) (starts (now lists)) (listed (now lists)) (c .nodes) ⌝ }
     ensures { λ r. ⌜ ((net : Network) (best : Candidate) → Indexed net (now (ends .entry)) (now (weights .entry)) (now (lists .entry)) (c .nodes) (c .links)
-        → Degrees net (now (degrees .entry)) → Spanning net (treeIn net (drop at (now (s .entry)))) → Prior lighter net tree (treeIn net (drop at (now (s .entry)))) best
-        → Says before best → Says r (firstFrom lighter best (treeCandidates net tree (treeIn net (drop at (now (s .entry))))))) ⌝ }
+        → Degrees net (now (degrees .entry)) → Spanning net (treeIn net (drop at (now (s .entry)))) → Prior (ahead fewerNodes) net tree (treeIn net (drop at (now (s .entry)))) best
+        → Says before best → Says r (firstFrom (ahead fewerNodes) best (treeCandidates net tree (treeIn net (drop at (now (s .entry))))))) ⌝ }
 {
     let nodes = c.nodes;
     let p = place_record(s, at, c, ends);
     search_tree(ends, weights, lists, degrees, p, nodes, tree, before)
 }
 
-// The first lightest candidate of the network, whose links are listed by node.
+// The first candidate of the network, whose links are listed by node.
 fn search_listed(
     s: &[u8],
     c: Counts,
@@ -87,7 +87,7 @@ fn search_listed(
     requires { ⌜ EndArrays (now ends) × (length (now weights) ≡ 2048) × (length (now lists) ≡ 4353) × (length (now degrees) ≡ 256)
         × Indexed (networkAt (now s) (now ends) (now weights) (countsOf c) at) (now ends) (now weights) (now lists) (c .nodes) (c .links)
         × Degrees (networkAt (now s) (now ends) (now weights) (countsOf c) at) (now degrees) ⌝ }
-    ensures { λ r. ⌜ Says r (reported (networkAt (now (s .entry)) (now (ends .entry)) (now (weights .entry)) (countsOf c) at)) ⌝ }
+    ensures { λ r. ⌜ Says r (reported fewerNodes (networkAt (now (s .entry)) (now (ends .entry)) (now (weights .entry)) (countsOf c) at)) ⌝ }
 {
     let trees = c.trees;
     let length = 4 + (c.links + 7) / 8;
@@ -96,6 +96,7 @@ fn search_listed(
         first: 0,
         second: 0,
         weight: UNFOUND,
+        count: 0,
     };
     let mut i = 0;
     while i < trees {
@@ -115,7 +116,7 @@ fn search_listed(
     best
 }
 
-// The first lightest candidate of the network that was read from the sheet into the arrays; its first tree record stands at `at`.
+// The first candidate of the network that was read from the sheet into the arrays; its first tree record stands at `at`.
 pub fn search_trees(
     s: &[u8],
     c: Counts,
@@ -125,7 +126,7 @@ pub fn search_trees(
 ) -> Found
     requires { ⌜ (at + c .trees * treeLength (c .links) ≤ length (now s)) × Accepted current (networkAt (now s) (now ends) (now weights) (countsOf c) at) ⌝ }
     requires { ⌜ EndArrays (now ends) × (length (now weights) ≡ 2048) ⌝ }
-    ensures { λ r. ⌜ Says r (reported (networkAt (now (s .entry)) (now (ends .entry)) (now (weights .entry)) (countsOf c) at)) ⌝ }
+    ensures { λ r. ⌜ Says r (reported fewerNodes (networkAt (now (s .entry)) (now (ends .entry)) (now (weights .entry)) (countsOf c) at)) ⌝ }
 {
     let nodes = c.nodes;
     let links = c.links;

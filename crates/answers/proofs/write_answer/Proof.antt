@@ -17,7 +17,7 @@ use Rattle.records.specs.Answers.{countsOf}
 use Rattle.reader.specs.Answers.{treesFrom, networkAt}
 use Rattle.choice.specs.Choice.{Says}
 use Rattle.survey.proofs.NetworkLaws.{networkAt-links-most, networkAt-trees, networkAt-trees-most, networkAt-laid}
-use Rattle.answers.proofs.AnswerLaws.{count-is, says-best, floor-is, verdict-is}
+use Rattle.answers.proofs.AnswerLaws.{says-best, floor-is, verdict-is}
 use Rattle.answers.proofs.write_answer.Statement.{statement}
 use Rattle.answers.proofs.write_answer.Tie as tie
 
@@ -34,7 +34,7 @@ net c = let a = c .args in networkAt (a .sheet .now) (a .ends .now) (a .weights 
 
 -- and its answer
 abbrev given : tie.Start → Answer
-given c = answer (current .counting) (net c)
+given c = answer (current .rules) (net c)
 
 search-trees-requires : tie.Need-search-trees-requires
 search-trees-requires c κs = search needs
@@ -53,10 +53,10 @@ slice-aggregate-mark-found c = search needs
 -- what was found is the answer's candidate
 module _ (c : tie.After-search-trees) where
   agrees : Demand2 (net (start c)) (given (start c))
-  agrees = answer-demand2 (net (start c)) (start c .pre .0 .1 .sound) (current .counting)
+  agrees = answer-demand2 (net (start c)) (start c .pre .0 .1 .sound) (current .rules)
 
   says : Says (c .search-trees .result) (given (start c) .best)
-  says = let a = start c .args in says-best (current .counting) (a .sheet .now) (a .ends .now) (a .weights .now) (countsOf (a .c)) (a .at) (c .search-trees .ensures)
+  says = let a = start c .args in says-best (current .rules) (a .sheet .now) (a .ends .now) (a .weights .now) (countsOf (a .c)) (a .at) (c .search-trees .ensures)
 
   tree-listed : c .search-trees .result .tree < start c .args .c .trees
   tree-listed =
@@ -75,7 +75,7 @@ slice-aggregate-write-areas c = search needs
 -- what is known once the floor was worked out and the side marked
 floor-here : (c : tie.After-bound) → let a = start (c .before) .args in
     c .bound .result
-    ≡ floor (counted (current .counting) (net (start (c .before))) (treesFrom (net (start (c .before))) (a .c .trees) (drop (a .at) (a .sheet .now))))
+    ≡ floor (counted (current .rules .counting) (net (start (c .before))) (treesFrom (net (start (c .before))) (a .c .trees) (drop (a .at) (a .sheet .now))))
     (c .before .search-trees .result .weight)
 floor-here c =
     let a = start (c .before) .args in
@@ -96,7 +96,7 @@ write-areas-requires : tie.Need-write-areas-requires
 write-areas-requires c κs =
     let m = c .before .before .before .before in
     let p = start (bounded m .before) .pre in
-    (p .1 .2, p .1 .3, m .mark-found .kept .0, p .0 .1 .nodes-most)
+    (p .1 .2, p .1 .3, m .mark-found .kept .0)
 
 same-length : tie.Need-same-length
 same-length c = search needs
@@ -113,9 +113,8 @@ returns c =
     let a = start (b .before) .args in
     let found = b .before .search-trees .ensures in
     w .write-areas .ensures (given (start (b .before))) (says (b .before)) (marked-here m)
-    (count-is (current .counting) (a .sheet .now) (a .ends .now) (a .weights .now) (countsOf (a .c)) (a .at))
-    (floor-is (current .counting) (a .sheet .now) (a .ends .now) (a .weights .now) (countsOf (a .c)) (a .at) found (floor-here b))
-    (verdict-is (current .counting) (a .sheet .now) (a .ends .now) (a .weights .now) (countsOf (a .c)) (a .at) found (floor-here b))
+    (floor-is (current .rules) (a .sheet .now) (a .ends .now) (a .weights .now) (countsOf (a .c)) (a .at) found (floor-here b))
+    (verdict-is (current .rules) (a .sheet .now) (a .ends .now) (a .weights .now) (countsOf (a .c)) (a .at) found (floor-here b))
 
 pub write-answer-spec : {M : Type 1} → statement M
 write-answer-spec =

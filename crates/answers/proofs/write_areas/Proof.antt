@@ -7,21 +7,15 @@ use Rattle.answers.proofs.ReportLaws.{report-fields}
 use Rattle.answers.proofs.write_areas.Statement.{statement}
 use Rattle.answers.proofs.write_areas.Tie as tie
 
--- the places on the way, each from a later one: the entry, where the side is written, and where the nodes are counted
+-- the places on the way, each from a later one: the entry, and where the side is written
 abbrev start : tie.After-write-side-arg → tie.Start
 start c = c .before .before .before .before
 
-abbrev side : tie.After-slice-known3 → tie.After-write-side
-side c = c .before .before
-
-abbrev counted : tie.After-second-link → tie.After-count-marked
-counted c = c .before .before
+abbrev side : tie.After-second-link → tie.After-write-side
+side c = c .before .before .before .before
 
 write-side-requires : tie.Need-write-side-requires
 write-side-requires c κs = let p = start c .pre in (p .2, p .0)
-
-count-marked-requires : tie.Need-count-marked-requires
-count-marked-requires c κs = let p = start (side c .before) .pre in (p .2, p .3)
 
 verdict-requires : tie.Need-verdict-requires
 verdict-requires c κs = tt
@@ -30,10 +24,10 @@ second-link-requires : tie.Need-second-link-requires
 second-link-requires c κs = tt
 
 write-report-requires : tie.Need-write-report-requires
-write-report-requires c κs = start (side (counted (c .before) .before) .before) .pre .1
+write-report-requires c κs = start (side (c .before) .before) .pre .1
 
 same-length : tie.Need-same-length
-same-length c = side (counted (c .before .before .before .before) .before) .write-side .kept .0
+same-length c = side (c .before .before .before .before) .write-side .kept .0
 
 same-length-2 : tie.Need-same-length-2
 same-length-2 c = c .before .before .write-report .kept .0
@@ -41,15 +35,14 @@ same-length-2 c = c .before .before .write-report .kept .0
 returns : tie.Need-returns
 returns c =
     let told = c .before .before .before .before in
-    let wrote = side (counted told .before) in
+    let wrote = side told in
     let a = start (wrote .before) .args in
-    λ answer says marked count floor verdict. (
+    λ answer says marked floor verdict. (
       wrote .write-side .ensures (answer .best .side) marked,
       c .before .before .write-report .ensures
           ∙ ap (λ (bs : Bytes). written bs (a .report .now))
-          (report-fields (a .found) answer says current _ _ _ _
+          (report-fields (a .found) answer says current _ _ _
           (verdict ∙ sym (told .before .verdict .ensures))
-          (count ∙ sym (counted told .count-marked .ensures (answer .best .side) marked))
           (told .second-link .ensures)
           floor),
     )
@@ -59,7 +52,6 @@ write-areas-spec =
     tie.close
     (tie.spec
     write-side-requires
-    count-marked-requires
     verdict-requires
     second-link-requires
     write-report-requires

@@ -4,11 +4,11 @@ use borrow.Author.Needs.{needs}
 use mathlib.Core.Path.{_∙_, ap₂}
 use native.Mathlib.Omega.{arith}
 use lib.Dec.{ltb}
-use Rattle.choice.proofs.FoundLaws.{by-weight, by-tree, by-first, by-rest}
+use Rattle.choice.proofs.FoundLaws.{by-weight, by-count, by-tree, by-first, by-rest}
 use Rattle.choice.proofs.comes_first.Statement.{statement}
 use Rattle.choice.proofs.comes_first.Tie as tie
 
--- from the first, the second and the third test to the function's entry
+-- from each test to the function's entry
 abbrev first : tie.After-struct-known2 → tie.Start
 first c = c .before .before
 
@@ -18,14 +18,20 @@ second c = first (c .before .before .before)
 abbrev third : tie.After-struct-known10 → tie.Start
 third c = second (c .before .before .before)
 
+abbrev fourth : tie.After-struct-known14 → tie.Start
+fourth c = third (c .before .before .before)
+
 returns : tie.Need-returns
 returns c = let s = first (c .before .before .before) .args in by-weight (s .a) (s .b) (λ e. omega arith)
 
 returns-2 : tie.Need-returns-2
-returns-2 c = let s = second (c .before .before .before) .args in by-tree (s .a) (s .b) (omega arith) (λ e. omega arith)
+returns-2 c = let s = second (c .before .before .before) .args in by-count (s .a) (s .b) (omega arith) (λ e. omega arith)
 
 returns-3 : tie.Need-returns-3
-returns-3 c = let s = third (c .before .before .before) .args in by-first (s .a) (s .b) (omega arith) (omega arith) (λ e. omega arith)
+returns-3 c = let s = third (c .before .before .before) .args in by-tree (s .a) (s .b) (omega arith) (omega arith) (λ e. omega arith)
+
+returns-4 : tie.Need-returns-4
+returns-4 c = let s = fourth (c .before .before .before) .args in by-first (s .a) (s .b) (omega arith) (omega arith) (omega arith) (λ e. omega arith)
 
 rank-requires : tie.Need-rank-requires
 rank-requires c κs = search needs
@@ -33,11 +39,11 @@ rank-requires c κs = search needs
 rank-requires-2 : tie.Need-rank-requires-2
 rank-requires-2 c κs = search needs
 
-returns-4 : tie.Need-returns-4
-returns-4 c =
-    let s = third (c .before .before .before) .args in
-    ap₂ ltb (c .before .rank .ensures) (c .rank2 .ensures) ∙ by-rest (s .a) (s .b) (omega arith) (omega arith) (omega arith)
+returns-5 : tie.Need-returns-5
+returns-5 c =
+    let s = fourth (c .before .before .before) .args in
+    ap₂ ltb (c .before .rank .ensures) (c .rank2 .ensures) ∙ by-rest (s .a) (s .b) (omega arith) (omega arith) (omega arith) (omega arith)
 
 pub comes-first-spec : {M : Type 1} → statement M
 comes-first-spec =
-    tie.close (tie.spec returns returns-2 returns-3 rank-requires rank-requires-2 returns-4)
+    tie.close (tie.spec returns returns-2 returns-3 returns-4 rank-requires rank-requires-2 returns-5)

@@ -1,7 +1,7 @@
 -- `monitor::report_in` meets its contract: what the sheet's reading says decides; a network that was read is accepted, and its answer is
 -- written. Assumes nothing.
-use mathlib.Core.Path.{_≡_, sym, ap, _∙_, subst}
 use mathlib.Core.List.{[]}
+use mathlib.Core.Path.{_≡_, sym, ap, _∙_, subst}
 use native.Mathlib.Omega.{arith}
 use borrow.Author.Needs.{needs}
 use Rattle.sheet.specs.Reading.{numberOf}
@@ -68,7 +68,7 @@ returns c =
     let t = told (w .before) in
     let a = start (read t) .args in
     let e = sheet-says (read t) _ (t .c .given .1) in
-    (ap numberOf e, w .write-answer .ensures .0 ∙ ap (sideLeft (a .side .now)) e, w .write-answer .ensures .1 ∙ ap (reportLeft current (a .report .now)) e)
+    (ap numberOf e, w .write-answer .ensures .0 ∙ ap (sideLeft current (a .side .now)) e, w .write-answer .ensures .1 ∙ ap (reportLeft current (a .report .now)) e)
 
 same-length-4 : tie.Need-same-length-4
 same-length-4 c = search needs
@@ -78,7 +78,7 @@ returns-2 c =
     let r = c .before .before .before .before .before in
     let a = start r .args in
     let e = sheet-says r _ (c .before .n .given .1) in
-    (ap numberOf e, ap (sideLeft (a .side .now)) e, ap (reportLeft current (a .report .now)) e)
+    (ap numberOf e, ap (sideLeft current (a .side .now)) e, ap (reportLeft current (a .report .now)) e)
 
 pub report-in-spec : {M : Type 1} → statement M
 report-in-spec =

@@ -1,40 +1,47 @@
 -- `search::search_row` meets its contract. The loop's invariant: what is found is the first of what was reached up to column v.
 -- Assumes nothing.
 use Prim.Native.Nat.{ℕ, _-_, _≤_, _<_}
-use mathlib.Core.Path.{_≡_, subst, sym, _∙_}
+use mathlib.Core.Path.{_≡_, subst, sym, ap, _∙_}
+use mathlib.Core.Logic.{⊎-elim}
 use mathlib.Core.List.{List}
 use native.Mathlib.Omega.{arith}
 use Rattle.cuts.specs.Network.{Network, Tree}
-use Rattle.cuts.specs.Candidate.{Candidate, lighter}
+use Rattle.cuts.specs.Candidate.{Candidate, fewerNodes, ahead, weightOf}
 use Rattle.cuts.specs.Limits.{Light}
 use Rattle.places.specs.Kept.{Kept}
 use Rattle.rows.specs.Rows.{Row}
 use Rattle.rows.proofs.PartLaws.{singlesIn-at}
 use Rattle.choice.specs.Rows.{Reached}
-use Rattle.choice.proofs.PrecedesLaws.{lighter-order}
-use Rattle.choice.proofs.ReachedLaws.{reached-row, reached-step}
-use Rattle.search.proofs.PairLaws.{pair-at, alone-at}
+use Rattle.cuts.proofs.Demands.{ahead-weighing}
+use Rattle.choice.proofs.ReachedLaws.{reached-row, reached-step, reached-heavier}
+use Rattle.choice.proofs.LinkLaws.{handle-one}
+use Rattle.search.proofs.PairLaws.{pair-at}
 use Rattle.search.proofs.search_row.Statement.{statement}
 use Rattle.search.proofs.search_row.Tie as tie
 
 abbrev Inv-loop : tie.InvT-loop
-Inv-loop figures stops links nodes tree u link best₀ v₀ best v =
+Inv-loop figures stops links nodes tree u link below best₀ v₀ best v =
     (u < v) × (v ≤ nodes) × ((net : Network) (t : Tree) (c : Candidate) (place node : List ℕ) → Light net → net .nodes ≡ nodes
     → Kept net t place node stops links → Row net t place stops links u figures
-    → Reached lighter c net tree t links u v₀ best₀ → Reached lighter c net tree t links u v best)
+    → Reached (ahead fewerNodes) c net tree t links u v₀ best₀ → Reached (ahead fewerNodes) c net tree t links u v best)
 
 abbrev μ-loop : tie.MeasureT-loop
-μ-loop figures stops links nodes tree u link best₀ v₀ best v = nodes - v
+μ-loop figures stops links nodes tree u link below best₀ v₀ best v = nodes - v
 
 -- where the function begins, from where the link alone was tried
 abbrev start : tie.After-try-pair Inv-loop μ-loop → tie.Start Inv-loop μ-loop
-start c = c .before .before .before .before .before .before
+start c = c .before .before .before .before .before .before .before
 
 mul-link : tie.Need-mul-link Inv-loop μ-loop
 mul-link c = omega arith
 
 shared-slice-read-link : tie.Need-shared-slice-read-link Inv-loop μ-loop
 shared-slice-read-link c = omega arith
+
+single-count-requires : tie.Need-single-count-requires Inv-loop μ-loop
+single-count-requires c κs =
+    let s = c .before .before .before .before in
+    (s .pre .1, s .pre .2, omega arith)
 
 add-try-pair : tie.Need-add-try-pair Inv-loop μ-loop
 add-try-pair c = omega arith
@@ -65,6 +72,12 @@ mul-try-pair-2 c = omega arith
 shared-slice-read-try-pair-2 : tie.Need-shared-slice-read-try-pair-2 Inv-loop μ-loop
 shared-slice-read-try-pair-2 c = omega arith
 
+pair-count-requires : tie.Need-pair-count-requires Inv-loop μ-loop
+pair-count-requires c κs =
+    let l = c .before .before .before .before in
+    let s = start (l .before) in
+    (s .pre .1, s .pre .2, l .loop .inv .0, omega arith)
+
 try-pair-requires-2 : tie.Need-try-pair-requires-2 Inv-loop μ-loop
 try-pair-requires-2 c κs = tt
 
@@ -85,10 +98,14 @@ loop-again c =
       λ net t x place node i n k w r.
           let q : l .v < net .nodes = omega arith in
           let z : 0 < u = s .pre .5 in
-          reached-step lighter-order u (l .v) _ z (omega arith) q
-          (c .before .before .pair-weight .ensures net t place node (s .args .links .now) i k w z q ∙ pair-at (k .links-at) u (l .v) z (l .inv .0) q)
-          (l .inv .2 net t x place node i n k w r)
-          (c .try-pair2 .ensures),
+          let weight = c .before .before .pair-weight .ensures net t place node (s .args .links .now) i k w z q ∙ ap (weightOf net t) (pair-at (k .links-at) u (l .v) z (l .inv .0) q) in
+          let reached = l .inv .2 net t x place node i n k w r in
+          ⊎-elim
+          (λ m. rw (m .4)
+          (reached-step (ahead-weighing fewerNodes .order) u (l .v) _ _ z (omega arith) q weight
+          (m .1 .ensures net t place node (s .args .links .now) k z q) reached (m .3 .ensures)))
+          (λ m. rw (m .1) (reached-heavier u (l .v) z (omega arith) q (rw (← weight) (m .0 .left)) reached))
+          (c .if1 .came),
     )
 
 returns : tie.Need-returns Inv-loop μ-loop
@@ -101,9 +118,11 @@ returns c =
     let z : 0 < u = s .pre .5 in
     let d : u < net .nodes = omega (arith, s .pre .6) in
     let all : l .v ≡ s .args .nodes = let b = l .inv .1 in let d = c .loop-test .left in omega arith in
-    subst (λ (v : ℕ). Reached lighter x net (s .args .tree) t (s .args .links .now) u v (l .best)) all
+    subst (λ (v : ℕ). Reached (ahead fewerNodes) x net (s .args .tree) t (s .args .links .now) u v (l .best)) all
     (l .inv .2 net t x place node i n k w
-    (reached-step lighter-order u u _ z (omega arith) d (sym (singlesIn-at (s .args .figures .now) u (omega arith)) ∙ w .alone u (omega arith) d ∙ alone-at net t (s .args .links .now) u)
+    (reached-step (ahead-weighing fewerNodes .order) u u _ _ z (omega arith) d
+    (sym (singlesIn-at (s .args .figures .now) u (omega arith)) ∙ w .alone u (omega arith) d ∙ ap (weightOf net t) (sym (handle-one (s .args .links .now) u)))
+    (f .before .before .single-count .ensures net t place node (s .args .links .now) k z d)
     (reached-row u (s .args .nodes) (omega arith) r) (f .try-pair .ensures)))
 
 pub search-row-spec : {M : Type 1} → statement M
@@ -114,6 +133,7 @@ search-row-spec =
     μ-loop
     mul-link
     shared-slice-read-link
+    single-count-requires
     add-try-pair
     mul-try-pair
     shared-slice-read-try-pair
@@ -121,6 +141,7 @@ search-row-spec =
     add-v
     loop-holds
     pair-weight-requires
+    pair-count-requires
     mul-try-pair-2
     shared-slice-read-try-pair-2
     try-pair-requires-2

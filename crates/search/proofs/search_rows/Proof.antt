@@ -8,14 +8,14 @@ use native.Mathlib.Numerals.{add-one}
 use borrow.Author.Needs.{needs}
 use lib.ListN.{length}
 use Rattle.cuts.specs.Network.{Network, Tree}
-use Rattle.cuts.specs.Candidate.{Candidate, lighter}
+use Rattle.cuts.specs.Candidate.{Candidate, fewerNodes, ahead}
 use Rattle.trees.specs.Order.{part}
 use Rattle.places.specs.Kept.{Kept}
 use Rattle.rows.specs.Rows.{Indexed, Weighted, degreesIn, Row}
 use Rattle.rows.proofs.RowLaws.{row-end}
 use Rattle.choice.specs.Choice.{Says}
 use Rattle.choice.specs.Rows.{Reached}
-use Rattle.choice.proofs.PrecedesLaws.{lighter-order}
+use Rattle.cuts.proofs.Demands.{ahead-weighing}
 use Rattle.choice.proofs.ReachedLaws.{reached-start, reached-end}
 use Rattle.search.proofs.search_rows.Statement.{statement}
 use Rattle.search.proofs.search_rows.Tie as tie
@@ -24,7 +24,7 @@ abbrev Inv-loop : tie.InvT-loop
 Inv-loop figures₀ ends weights lists nodes tree stops links bytes best₀ u₀ figures best u =
     (u ≤ nodes) × (length figures ≡ 1025) × (degreesIn figures ≡ degreesIn figures₀) × ((net : Network) (t : Tree) (c : Candidate) (count : ℕ)
     → Indexed net ends weights lists nodes count → Kept net t (part bytes 0) (part bytes 1) stops links → Weighted net (part bytes 0) (degreesIn figures₀) → Says best₀ c
-    → Row net t (part bytes 0) stops links u figures × Reached lighter c net tree t links u nodes best)
+    → Row net t (part bytes 0) stops links u figures × Reached (ahead fewerNodes) c net tree t links u nodes best)
 
 abbrev μ-loop : tie.MeasureT-loop
 μ-loop figures₀ ends weights lists nodes tree stops links bytes best₀ u₀ figures best u = u
@@ -52,7 +52,7 @@ loop-holds c = (
   omega arith,
   omega arith,
   refl,
-  λ net t x count e k w says. let n = e .laid .held .sized in (row-end net t _ _ _ _ _ (omega arith), reached-start lighter-order _ _ (omega arith) says),
+  λ net t x count e k w says. let n = e .laid .held .sized in (row-end net t _ _ _ _ _ (omega arith), reached-start (ahead-weighing fewerNodes .order) _ _ (omega arith) says),
 )
 
 sub-u : tie.Need-sub-u Inv-loop μ-loop
@@ -100,7 +100,7 @@ loop-again c =
           let q : l .u ≡ suc u = omega (arith, b) in
           let o = l .inv .3 net x d count e k w says in
           let before = subst (λ (i : ℕ). Row net x (a .p .place) (a .p .stops) (a .p .links) i (l .figures)) q (o .0) in
-          let reached = subst (λ (i : ℕ). Reached lighter d net (a .tree) x (a .p .links) i (a .nodes) (l .best)) (q ∙ sym (add-one u)) (o .1) in
+          let reached = subst (λ (i : ℕ). Reached (ahead fewerNodes) d net (a .tree) x (a .p .links) i (a .nodes) (l .best)) (q ∙ sym (add-one u)) (o .1) in
           let row = m .make-row .ensures .1 net x (a .p .links) count e k (subst (Weighted net (a .p .place)) (sym (l .inv .2)) w) before in
           (row, c .search-row .ensures net x d (a .p .place) (a .p .node) (e .light) (e .laid .held .sized) k row reached),
     )
@@ -113,7 +113,7 @@ returns c =
     λ net t x count e k w p says.
     let l = c .before .loop in
     let n = e .laid .held .sized in
-    reached-end lighter-order (k .links-at) (l .u) _ (c .loop-test .left) (omega arith) p (l .inv .3 net t x count e k w says .1)
+    reached-end (ahead-weighing fewerNodes .order) (k .links-at) (l .u) _ (c .loop-test .left) (omega arith) p (l .inv .3 net t x count e k w says .1)
 
 pub search-rows-spec : {M : Type 1} → statement M
 search-rows-spec =

@@ -7,7 +7,7 @@ use native.Mathlib.Omega.{arith}
 use lib.ListN.{length}
 use Rattle.cuts.specs.First.{firstFrom}
 use Rattle.cuts.specs.Network.{Network, Tree, treeAt}
-use Rattle.cuts.specs.Candidate.{Candidate, lighter}
+use Rattle.cuts.specs.Candidate.{Candidate, fewerNodes, ahead}
 use Rattle.choice.specs.Choice.{Says, Prior, treeCandidates}
 use Rattle.sheet.specs.Sheet.{treeLength}
 use Rattle.records.specs.Answers.{countsOf}
@@ -57,7 +57,7 @@ add-length-2 c = let b = few-links (c .before .before .before .before .before) i
 loop-holds : tie.Need-loop-holds Inv-loop μ-loop
 loop-holds c =
     let b = c .before .before .before .before .before in
-    (omega arith, trees-start (net b) (b .pre .0 .1 .sound) (b .pre .1 .4 .light) (record { tree = refl; handle = refl; weight = refl }))
+    (omega arith, trees-start (net b) (b .pre .0 .1 .sound) (b .pre .1 .4 .light) (record { tree = refl; handle = refl; weight = refl; count = refl }))
 
 mul-search-record : tie.Need-mul-search-record Inv-loop μ-loop
 mul-search-record c = let b = inside c in omega arith
@@ -94,17 +94,17 @@ loop-less c = let l = test c .loop-test .taken in omega arith
 
 -- what `search_record` found, of the tree itself
 searched : (c : tie.After-search-record Inv-loop μ-loop) → let l = test c .before .loop in let m = net (start (test c .before)) in let t = treeAt m (l .i) in
-    (d : Candidate) → Prior lighter m (l .i) t d → Says (l .best) d → Says (c .search-record .result) (firstFrom lighter d (treeCandidates m (l .i) t))
+    (d : Candidate) → Prior (ahead fewerNodes) m (l .i) t d → Says (l .best) d → Says (c .search-record .result) (firstFrom (ahead fewerNodes) d (treeCandidates m (l .i) t))
 searched c d prior says =
     let b = start (test c .before) in
     let a = b .args in
     let m = net b in
     let l = test c .before .loop in
     let e = networkAt-tree (a .s .now) (a .ends .now) (a .weights .now) (countsOf (a .c)) (a .at) (l .i) (test c .loop-test .taken) in
-    subst (λ (t : Tree). Says (c .search-record .result) (firstFrom lighter d (treeCandidates m (l .i) t))) (sym e)
+    subst (λ (t : Tree). Says (c .search-record .result) (firstFrom (ahead fewerNodes) d (treeCandidates m (l .i) t))) (sym e)
     (c .search-record .ensures m d (b .pre .1 .4) (b .pre .1 .5)
     (networkAt-spanning (a .s .now) (a .ends .now) (a .weights .now) (countsOf (a .c)) (a .at) (b .pre .0 .1 .sound) (l .i) (test c .loop-test .taken))
-    (subst (λ (t : Tree). Prior lighter m (l .i) t d) e prior)
+    (subst (λ (t : Tree). Prior (ahead fewerNodes) m (l .i) t d) e prior)
     says)
 
 loop-again : tie.Need-loop-again Inv-loop μ-loop
