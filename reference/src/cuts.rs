@@ -6,11 +6,12 @@ use crate::network::{Link, Network, Tree};
 pub const TREES_ONLY: u8 = 1;
 pub const WHOLE: u8 = 2;
 
-/// A single tree link or a pair, with the weight of its side. The order of the fields is document 01's order among candidates:
-/// no second link stands before any.
+/// A single tree link or a pair, with the weight of its side and the number of nodes in it. The order of the fields is the order among
+/// candidates in force: no second link stands before any.
 #[derive(Clone, Copy, Debug, PartialEq, Eq, PartialOrd, Ord)]
 pub struct Candidate {
     pub weight: u64,
+    pub nodes: usize,
     pub tree: usize,
     pub first: usize,
     pub second: Option<usize>,
@@ -80,23 +81,75 @@ fn singles_and_pairs(members: &[usize]) -> impl Iterator<Item = (usize, Option<u
     })
 }
 
-/// The first candidate in document 01's order, and its side. The network is sound: it has a tree, and each tree joins all nodes.
-fn lightest(network: &Network) -> (Candidate, Vec<usize>) {
-    let mut found: Option<(Candidate, Vec<bool>)> = None;
-    let mut inside = vec![false; network.nodes];
-    for (number, tree) in network.trees.iter().enumerate() {
-        let steps = flood(network, tree);
-        for (first, second) in singles_and_pairs(&tree.members) {
-            mark_inside(&steps, first, second, &mut inside);
-            let weight = weigh(&network.links, &inside);
-            let candidate = Candidate { weight, tree: number, first, second };
-            if found.as_ref().is_none_or(|(best, _)| candidate < *best) {
-                found = Some((candidate, inside.clone()));
-            }
+/// Which of two candidates stands before the other. The first of all is reported.
+#[derive(Clone, Copy, Debug, PartialEq, Eq)]
+pub enum Order {
+    /// By weight, tree, first link, a single link before a pair, and second link: document 01's order, of units already sold.
+    Listed,
+    /// By weight and fewer nodes in the side, and then as listed: the order in force.
+    FewerNodes,
+}
+
+impl Order {
+    fn is_before(self, one: &Candidate, other: &Candidate) -> bool {
+        let listed = |of: &Candidate| (of.weight, of.tree, of.first, of.second);
+        match self {
+            Order::Listed => listed(one) < listed(other),
+            Order::FewerNodes => one < other,
         }
     }
-    let (candidate, inside) = found.expect("a sound network has a tree link");
-    (candidate, (0..network.nodes).filter(|&node| inside[node]).collect())
+}
+
+/// A candidate, and which nodes are inside its side.
+struct Found {
+    candidate: Candidate,
+    inside: Vec<bool>,
+}
+
+/// The first candidates of a network by either order.
+pub struct Firsts {
+    listed: Found,
+    fewer_nodes: Found,
+}
+
+impl Firsts {
+    /// Searches a sound network once: it has a tree, and each tree joins all nodes.
+    pub fn of(network: &Network) -> Firsts {
+        let (mut listed, mut fewer_nodes) = (None, None);
+        let mut inside = vec![false; network.nodes];
+        for (tree, record) in network.trees.iter().enumerate() {
+            let steps = flood(network, record);
+            for (first, second) in singles_and_pairs(&record.members) {
+                mark_inside(&steps, first, second, &mut inside);
+                let weight = weigh(&network.links, &inside);
+                let nodes = inside.iter().filter(|&&inside| inside).count();
+                let candidate = Candidate { weight, nodes, tree, first, second };
+                keep_first(Order::Listed, &mut listed, candidate, &inside);
+                keep_first(Order::FewerNodes, &mut fewer_nodes, candidate, &inside);
+            }
+        }
+        let first = |found: Option<Found>| found.expect("a sound network has a tree link");
+        Firsts { listed: first(listed), fewer_nodes: first(fewer_nodes) }
+    }
+
+    /// The network's answer by those rules.
+    pub fn answer(&self, rules: Rules, network: &Network) -> Answer {
+        let Found { candidate, inside } = match rules.order {
+            Order::Listed => &self.listed,
+            Order::FewerNodes => &self.fewer_nodes,
+        };
+        let floor = candidate.weight.min(three_shares(counted(rules.counting, network)));
+        let verdict = if floor == candidate.weight { WHOLE } else { TREES_ONLY };
+        let side = (0..network.nodes).filter(|&node| inside[node]).collect();
+        Answer { verdict, floor, candidate: *candidate, side }
+    }
+}
+
+/// Puts a candidate in the place of the first one so far, if it stands before that or there is none.
+fn keep_first(order: Order, first: &mut Option<Found>, candidate: Candidate, inside: &[bool]) {
+    if first.as_ref().is_none_or(|found| order.is_before(&candidate, &found.candidate)) {
+        *first = Some(Found { candidate, inside: inside.to_vec() });
+    }
 }
 
 /// Which trees count: the floor is made of their shares.
@@ -155,29 +208,28 @@ pub fn three_shares(trees: &[Tree]) -> u64 {
     3 * trees.iter().map(|tree| tree.share).sum::<u64>()
 }
 
-/// The answer with that candidate and side; floor and verdict are by the rule.
-fn with_floor(counting: Counting, network: &Network, candidate: Candidate, side: Vec<usize>) -> Answer {
-    let floor = candidate.weight.min(three_shares(counted(counting, network)));
-    let verdict = if floor == candidate.weight { WHOLE } else { TREES_ONLY };
-    Answer { verdict, floor, candidate, side }
+/// What the answers of units already sold may differ in.
+#[derive(Clone, Copy, Debug, PartialEq, Eq)]
+pub struct Rules {
+    pub counting: Counting,
+    pub order: Order,
 }
 
-/// The answer of a sound network by that rule.
-pub fn answer_by(counting: Counting, network: &Network) -> Answer {
-    let (candidate, side) = lightest(network);
-    with_floor(counting, network, candidate, side)
+/// Document 01's rules, of units already sold.
+pub const BASE: Rules = Rules { counting: Counting::AllOrNone, order: Order::Listed };
+/// Document 01's order with the counting in force, of units already sold too.
+pub const LISTED: Rules = Rules { counting: Counting::LongestRun, order: Order::Listed };
+/// The rules in force.
+pub const CURRENT: Rules = Rules { counting: Counting::LongestRun, order: Order::FewerNodes };
+
+/// The answer of a sound network by those rules.
+pub fn answer_by(rules: Rules, network: &Network) -> Answer {
+    Firsts::of(network).answer(rules, network)
 }
 
-/// The answer of a sound network by the rule in force.
+/// The answer of a sound network by the rules in force.
 pub fn answer(network: &Network) -> Answer {
-    answer_by(Counting::LongestRun, network)
-}
-
-impl Answer {
-    /// The network's answer by that rule, without another search: candidate and side are this answer's.
-    pub fn by(&self, counting: Counting, network: &Network) -> Answer {
-        with_floor(counting, network, self.candidate, self.side.clone())
-    }
+    answer_by(CURRENT, network)
 }
 
 #[cfg(test)]
@@ -185,14 +237,39 @@ mod tests {
     use super::*;
     use crate::documented;
 
+    /// A candidate of weight 5 with four nodes, in tree 1.
+    fn of_tree_1(first: usize, second: Option<usize>) -> Candidate {
+        Candidate { weight: 5, nodes: 4, tree: 1, first, second }
+    }
+
     #[test]
-    fn a_single_link_stands_before_a_pair_and_after_a_pair_of_a_lower_first_link() {
-        let candidate = |first, second| Candidate { weight: 5, tree: 1, first, second };
-        assert!(candidate(3, None) < candidate(3, Some(4)));
-        assert!(candidate(2, Some(9)) < candidate(3, None));
-        assert!(candidate(3, Some(4)) < candidate(3, Some(5)));
-        assert!(candidate(9, None) < Candidate { weight: 5, tree: 2, first: 0, second: None });
-        assert!(Candidate { weight: 4, tree: 9, first: 9, second: Some(10) } < candidate(0, None));
+    fn by_either_order_a_single_link_stands_before_a_pair_and_after_a_pair_of_a_lower_first_link() {
+        let in_order = [
+            Candidate { weight: 4, nodes: 9, tree: 9, first: 9, second: Some(10) },
+            of_tree_1(2, Some(9)),
+            of_tree_1(3, None),
+            of_tree_1(3, Some(4)),
+            of_tree_1(3, Some(5)),
+            of_tree_1(9, None),
+            Candidate { tree: 2, ..of_tree_1(0, None) },
+        ];
+        for order in [Order::Listed, Order::FewerNodes] {
+            for (place, one) in in_order.iter().enumerate() {
+                assert!(in_order[place + 1..].iter().all(|other| order.is_before(one, other)), "{order:?}: {one:?}");
+                assert!(in_order[..=place].iter().all(|other| !order.is_before(one, other)), "{order:?}: {one:?}");
+            }
+        }
+    }
+
+    #[test]
+    fn fewer_nodes_stand_before_a_lower_tree_and_behind_a_lower_weight() {
+        let small = Candidate { nodes: 3, tree: 2, ..of_tree_1(9, Some(10)) };
+        let (large, lighter) = (of_tree_1(0, None), Candidate { weight: 4, ..of_tree_1(0, None) });
+        assert!(Order::FewerNodes.is_before(&small, &large) && Order::Listed.is_before(&large, &small));
+        assert!(Order::FewerNodes.is_before(&lighter, &small) && Order::Listed.is_before(&lighter, &small));
+        let listed_alike = Candidate { nodes: 3, ..large };
+        assert!(Order::FewerNodes.is_before(&listed_alike, &large));
+        assert!(!Order::Listed.is_before(&listed_alike, &large) && !Order::Listed.is_before(&large, &listed_alike));
     }
 
     /// How many trees count by either rule. The trees have one link each, of weight 4 or 20.

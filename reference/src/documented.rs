@@ -1,5 +1,5 @@
-//! Document 01's networks, starred or not, the limits of documents 01 and 02, networks for request F-3 and sheets for request F-9. The
-//! lines of each stand in the documents or were reckoned by hand from their words.
+//! Document 01's networks, starred or not, the limits of documents 01 and 02, networks for requests F-3 and F-6 and sheets for request
+//! F-9. The lines of each stand in the documents or were reckoned by hand from their words.
 
 use crate::network::{Link, Network, Tree};
 use crate::sheet::{self, Contents};
@@ -10,6 +10,15 @@ pub struct Documented {
     /// What the report program prints, and the cable crew's.
     pub lines: String,
     pub trunk_lines: String,
+    /// What the report program prints by document 01's order among candidates, that of units already sold.
+    pub listed_lines: String,
+}
+
+impl Documented {
+    /// The same with other lines by document 01's order.
+    fn listed(self, lines: &str) -> Documented {
+        Documented { listed_lines: lines.to_string(), ..self }
+    }
 }
 
 /// The bytes of case A, as document 01 gives them.
@@ -37,14 +46,16 @@ fn documented(name: &str, sheet: Vec<u8>, lines: &str) -> Documented {
         true => lines.to_string(),
         false => (0..links).map(|link| format!("{link} 0\n")).collect(),
     };
-    Documented { name: name.to_string(), sheet, lines: lines.to_string(), trunk_lines }
+    let (name, lines) = (name.to_string(), lines.to_string());
+    Documented { name, sheet, trunk_lines, listed_lines: lines.clone(), lines }
 }
 
 /// All of them, case A first.
 pub fn all() -> Vec<Documented> {
-    [of_document_01(), shares_of_two_trees(), runs_of_trees(), wide_runs(), with_trunks()]
+    [of_document_01(), shares_of_two_trees(), runs_of_trees(), wide_runs(), sizes_of_sides(), steps_of_the_order()]
         .into_iter()
         .flatten()
+        .chain(with_trunks())
         .collect()
 }
 
@@ -71,18 +82,18 @@ fn starred() -> Vec<Documented> {
     let hidden = [(0, 1, 1), (1, 2, 1), (2, 3, 1), (0, 2, 10), (1, 3, 10)];
     let a = "answer 2 5 5 0 0 - 1\nside 1\n";
     let b = "answer 1 5 3 0 0 - 1\nside 1\n";
-    let c = "answer 2 2 2 0 0 - 3\nside 1 2 3\n";
-    let d = "answer 1 2 0 0 0 - 3\nside 1 2 3\n";
+    let c = "answer 2 2 2 0 0 1 1\nside 1\n";
+    let d = "answer 1 2 0 0 0 1 1\nside 1\n";
     let e = "answer 2 2 2 0 0 1 1\nside 1\n";
-    let f = "answer 1 11 3 0 0 - 3\nside 1 2 3\n";
+    let f = "answer 1 11 3 0 2 - 1\nside 3\n";
     let g = "answer 2 0 0 0 0 - 1\nside 1\n";
     vec![
         documented("A", CASE_A.to_vec(), a),
         one_tree("B", 3, &triangle, (1, &[0, 2]), b),
-        one_tree("C", 4, &RING, (1, &[0, 1, 2]), c),
-        one_tree("D", 4, &RING, (0, &[0, 1, 2]), d),
+        one_tree("C", 4, &RING, (1, &[0, 1, 2]), c).listed("answer 2 2 2 0 0 - 3\nside 1 2 3\n"),
+        one_tree("D", 4, &RING, (0, &[0, 1, 2]), d).listed("answer 1 2 0 0 0 - 3\nside 1 2 3\n"),
         one_tree("E", 3, &thick, (1, &[0, 1]), e),
-        one_tree("F", 4, &hidden, (1, &[0, 1, 2]), f),
+        one_tree("F", 4, &hidden, (1, &[0, 1, 2]), f).listed("answer 1 11 3 0 0 - 3\nside 1 2 3\n"),
         one_tree("G", 2, &[(0, 1, 0)], (7, &[0]), g),
     ]
 }
@@ -111,8 +122,9 @@ fn other_cases() -> Vec<Documented> {
     stray_bit[CASE_A_LINK_MAP] = 0x0D;
     let mut one_byte_more = CASE_A.to_vec();
     one_byte_more.push(0);
+    let i = documented("I", sheet::write(&two_trees), "answer 1 2 0 0 0 1 1\nside 1\n");
     vec![
-        documented("I", sheet::write(&two_trees), "answer 1 2 0 0 0 - 3\nside 1 2 3\n"),
+        i.listed("answer 1 2 0 0 0 - 3\nside 1 2 3\n"),
         documented("three nodes with 1 link", sheet::write(&too_few_links), "refused 5\n"),
         documented("A with link map 0x0D", stray_bit, "refused 13\n"),
         documented("C with all four links in the tree", sheet::write(&too_many_members), "refused 14\n"),
@@ -144,12 +156,14 @@ fn greatest_floor_sheet(links: usize, weight: u64) -> Vec<u8> {
 
 fn node_limits() -> Vec<Documented> {
     let all_but_the_root: String = (1..256).map(|node| format!(" {node}")).collect();
-    let most_nodes = format!("answer 2 1 1 0 0 - 255\nside{all_but_the_root}\n");
+    let most_listed = format!("answer 2 1 1 0 0 - 255\nside{all_but_the_root}\n");
+    // every link of the path weighs 1 alone, and the last one has only the last node below it
+    let most_nodes = "answer 2 1 1 0 254 - 1\nside 255\n";
     let two_nodes = "answer 2 1 1 0 0 - 1\nside 1\n";
     vec![
         documented("1 node", path_sheet(1), "refused 4\n"),
         documented("2 nodes", path_sheet(2), two_nodes),
-        documented("256 nodes", path_sheet(256), &most_nodes),
+        documented("256 nodes", path_sheet(256), most_nodes).listed(&most_listed),
         documented("257 nodes", path_sheet(257), "refused 4\n"),
     ]
 }
@@ -245,6 +259,58 @@ fn wide_runs() -> Vec<Documented> {
     ]
 }
 
+/// Networks for request F-6 whose lightest sides have unlike numbers of nodes, and one whose smallest side is not a lightest.
+fn sizes_of_sides() -> Vec<Documented> {
+    // a ring in which links 0, 2 and 5 weigh 1 and the others 9: the lightest sides cross two of those three. Link 0 has five nodes below
+    // it and link 2 three of these, so both together have the 5 - 3 between them, fewer than link 2 alone
+    let nested = [(0, 1, 1), (1, 2, 9), (2, 3, 1), (3, 4, 9), (4, 5, 9), (5, 0, 1)];
+    // nodes 1 and 2 and nodes 3 and 4 are joined by a link of 9 and hang by 1 each: links 0 and 2 together have 2 + 2 nodes below them
+    // and weigh 2, as link 4 does with three nodes
+    let disjoint = [(0, 1, 1), (1, 2, 9), (0, 3, 1), (3, 4, 9), (0, 5, 2), (5, 6, 9), (6, 7, 9), (2, 4, 9)];
+    // links 0 and 2 have 2 + 1 nodes below them, links 3 and 5 the 3 - 1 between them; all other sides that the tree shows cross a link
+    // of 9
+    let both = [(0, 1, 1), (1, 2, 9), (0, 3, 1), (0, 4, 1), (4, 5, 9), (5, 6, 1), (2, 3, 9), (6, 0, 9)];
+    // node 2 alone weighs one more than nodes 1 and 2, and node 1 alone as much as both links
+    let lighter = [(0, 1, 4_294_967_294), (1, 2, 4_294_967_295)];
+    let between = "answer 2 2 2 0 0 2 2\nside 1 2\n";
+    let link_4 = "answer 2 2 2 0 4 - 3\nside 5 6 7\n";
+    let links_3_and_5 = "answer 2 2 2 0 3 5 2\nside 4 5\n";
+    let two_nodes = "answer 1 4294967294 3 0 0 - 2\nside 1 2\n";
+    vec![
+        one_tree("nested links", 6, &nested, (1, &[0, 1, 2, 3, 4]), between)
+            .listed("answer 2 2 2 0 0 - 5\nside 1 2 3 4 5\n"),
+        one_tree("links beside each other", 8, &disjoint, (1, &[0, 1, 2, 3, 4, 5, 6]), link_4)
+            .listed("answer 2 2 2 0 0 2 4\nside 1 2 3 4\n"),
+        one_tree("links beside each other, and nested ones", 7, &both, (1, &[0, 1, 2, 3, 4, 5]), links_3_and_5)
+            .listed("answer 2 2 2 0 0 2 3\nside 1 2 3\n"),
+        one_tree("a lighter side of more nodes", 3, &lighter, (1, &[0, 1]), two_nodes),
+    ]
+}
+
+/// Networks in which each further step of request F-6's order decides: fewer nodes before the tree, then the tree, a single link before a
+/// pair, and the second link.
+fn steps_of_the_order() -> Vec<Documented> {
+    // the star around node 1 does not show that node alone, for it crosses three members; the other tree does
+    let trees: [(u64, &[usize]); 2] = [(0, &[0, 1, 2]), (1, &[0, 3, 4])];
+    let two_trees = |links: Links| sheet::write(&network(4, links, &trees));
+    // node 1 weighs 3, and so do nodes 1, 2 and 3 together; nodes 2 and 3 together 4, and what cuts the link of 9 more
+    let smaller_later = [(0, 1, 1), (1, 2, 1), (1, 3, 1), (2, 3, 9), (0, 2, 1), (0, 3, 1)];
+    // node 1 weighs 3, and so does node 3, which the star shows by link 2; nodes 1 and 3 together 4, and what cuts the link of 9 more
+    let as_small_later = [(0, 1, 1), (1, 2, 1), (1, 3, 1), (2, 3, 1), (0, 2, 9), (0, 3, 1)];
+    // all sides weigh 2: link 0 alone has node 2 below it, with link 1 above it the two have node 1
+    let triangle = [(1, 2, 1), (0, 1, 1), (0, 2, 1)];
+    // link 0 is the second of the path: with link 1 above it the two have node 1, with link 2 below it node 2, alone nodes 2 and 3
+    let ring = [(1, 2, 1), (0, 1, 1), (2, 3, 1), (3, 0, 1)];
+    vec![
+        documented("a smaller side of a later tree", two_trees(&smaller_later), "answer 2 3 3 1 0 - 1\nside 1\n")
+            .listed("answer 2 3 3 0 0 - 3\nside 1 2 3\n"),
+        documented("as small a side of a later tree", two_trees(&as_small_later), "answer 2 3 3 0 2 - 1\nside 3\n"),
+        one_tree("a link alone and with another", 3, &triangle, (1, &[0, 1]), "answer 2 2 2 0 0 - 1\nside 2\n"),
+        one_tree("a link with either of two", 4, &ring, (1, &[0, 1, 2]), "answer 2 2 2 0 0 1 1\nside 1\n")
+            .listed("answer 2 2 2 0 0 - 2\nside 2 3\n"),
+    ]
+}
+
 /// Sheets for request F-9, in each of which bit 3 of a map byte is set or a map byte is 16.
 pub fn with_trunks() -> Vec<Documented> {
     [trunk_numbers(), trunks_cut_off(), other_refusals(), longest()].into_iter().flatten().collect()
@@ -252,8 +318,7 @@ pub fn with_trunks() -> Vec<Documented> {
 
 /// The sheet of these records, with what both programs print.
 fn trunked(name: &str, records: &[&[u8]], lines: &str, trunk_lines: &str) -> Documented {
-    let (lines, trunk_lines) = (lines.to_string(), trunk_lines.to_string());
-    Documented { name: name.to_string(), sheet: records.concat(), lines, trunk_lines }
+    Documented { trunk_lines: trunk_lines.to_string(), ..documented(name, records.concat(), lines) }
 }
 
 /// The sheet of these records, which both programs refuse.

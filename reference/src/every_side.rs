@@ -3,6 +3,7 @@
 
 use crate::cuts::{Answer, Candidate, TREES_ONLY, WHOLE};
 use crate::network::{Network, Tree};
+use std::cmp::Ordering;
 
 /// Networks of more nodes have too many sides to try them all.
 pub const MOST_NODES: usize = 10;
@@ -29,6 +30,10 @@ fn nodes_of(network: &Network, side: u32) -> Vec<usize> {
     (0..network.nodes).filter(|&node| side >> node & 1 == 1).collect()
 }
 
+fn node_count(side: u32) -> usize {
+    side.count_ones() as usize
+}
+
 /// A side that a tree shows, named by the members that it crosses.
 type Shown = (Candidate, u32);
 
@@ -43,7 +48,7 @@ fn shown(network: &Network) -> Vec<Shown> {
                 [first, second] => (first, Some(second)),
                 _ => continue,
             };
-            let candidate = Candidate { weight, tree, first, second };
+            let candidate = Candidate { weight, nodes: node_count(side), tree, first, second };
             shown.push((candidate, side));
         }
     }
@@ -96,18 +101,44 @@ fn require(holds: bool, otherwise: &str) -> Result<(), String> {
     }
 }
 
-/// Demand 3 of a reported answer with request F-3's floor, by every side of the whole network; the error says what does not hold.
+/// Demand 3 of a reported answer with request F-3's floor and request F-6's order, by every side of the whole network; the error says
+/// what does not hold.
 pub fn check_demand(network: &Network, answer: &Answer) -> Result<(), String> {
     check_reported(network, answer)?;
-    let shows = |tree: &Tree, side: u32| crossing_members(network, tree, side).len() <= 2;
     for side in sides(network) {
         let weight = weigh(network, side);
-        let heavier = weight >= answer.candidate.weight;
-        let is_shown = network.trees.iter().any(|tree| shows(tree, side));
         require(weight >= answer.floor, "a side is below the floor")?;
-        require(heavier || !is_shown, "a lighter side is shown")?;
+        for (number, tree) in network.trees.iter().enumerate() {
+            let crossed = crossing_members(network, tree, side);
+            if crossed.len() <= 2 {
+                check_first(&answer.candidate, weight, node_count(side), number, &crossed)?;
+            }
+        }
     }
     Ok(())
+}
+
+/// A side that a tree shows does not stand before the reported one: of weight, nodes, tree, first link, number of links and second link,
+/// the first in which the two differ is not less.
+fn check_first(reported: &Candidate, weight: u64, nodes: usize, tree: usize, crossed: &[usize]) -> Result<(), String> {
+    let links = links_of(reported);
+    let steps = [
+        (weight.cmp(&reported.weight), "a lighter side is shown"),
+        (nodes.cmp(&reported.nodes), "a side as light with fewer nodes is shown"),
+        (tree.cmp(&reported.tree), "an earlier tree shows a side as light and as small"),
+        (crossed.first().cmp(&links.first()), "a lower first link of the tree shows a side as light and as small"),
+        (crossed.len().cmp(&links.len()), "the first link alone shows a side as light and as small"),
+        (crossed.last().cmp(&links.last()), "a lower second link shows a side as light and as small"),
+    ];
+    match steps.into_iter().find(|(step, _)| step.is_ne()) {
+        Some((Ordering::Less, before)) => Err(before.to_string()),
+        _ => Ok(()),
+    }
+}
+
+/// The one link or the two of a candidate.
+fn links_of(candidate: &Candidate) -> Vec<usize> {
+    [candidate.first].into_iter().chain(candidate.second).collect()
 }
 
 /// The reported numbers fit the reported side.
@@ -115,7 +146,6 @@ fn check_reported(network: &Network, answer: &Answer) -> Result<(), String> {
     let candidate = answer.candidate;
     let tree = network.trees.get(candidate.tree);
     let tree = tree.ok_or("the tree is not listed")?;
-    let links: Vec<usize> = [candidate.first].into_iter().chain(candidate.second).collect();
     let side = answer.side.iter().fold(0, |side, &node| side | 1 << node);
     let crossed = crossing_members(network, tree, side);
     let owed_verdict = match candidate.weight == answer.floor {
@@ -125,7 +155,8 @@ fn check_reported(network: &Network, answer: &Answer) -> Result<(), String> {
     require(side != 0, "the side is empty")?;
     require(side & 1 == 0, "the side holds node 0")?;
     require(weigh(network, side) == candidate.weight, "the weight")?;
-    require(crossed == links, "the side crosses other members")?;
+    require(node_count(side) == candidate.nodes, "the number of nodes")?;
+    require(crossed == links_of(&candidate), "the side crosses other members")?;
     check_floor(network, answer)?;
     require(answer.verdict == owed_verdict, "the verdict")
 }
@@ -247,10 +278,11 @@ mod tests {
         let network = network();
         let right = answer(&network);
         assert_eq!(check_demand(&network, &right), Ok(()));
-        let changes: [fn(&mut Answer); 8] = [
+        let changes: [fn(&mut Answer); 9] = [
             |answer| answer.verdict = TREES_ONLY,
             |answer| answer.floor = 1,
             |answer| answer.candidate.weight = 3,
+            |answer| answer.candidate.nodes = 2,
             |answer| answer.candidate.tree = 1,
             |answer| answer.candidate.first = 2,
             |answer| answer.candidate.second = None,
@@ -269,7 +301,7 @@ mod tests {
     fn run_of_two() -> (Network, Answer) {
         let trees: [(u64, &[usize]); 4] = [(2, &[0]), (2, &[0]), (1, &[0]), (3, &[1])];
         let network = documented::network(2, &[(0, 1, 4), (0, 1, 36)], &trees);
-        let candidate = Candidate { weight: 40, tree: 0, first: 0, second: None };
+        let candidate = Candidate { weight: 40, nodes: 1, tree: 0, first: 0, second: None };
         (network, Answer { verdict: TREES_ONLY, floor: 12, candidate, side: vec![1] })
     }
 
@@ -299,13 +331,77 @@ mod tests {
         assert_eq!(check_demand(&network, &right), Err("the floor".to_string()));
     }
 
+    /// A side that is shown and reported with its own numbers is the answer, and another one is noticed for what stands before it.
+    #[track_caller]
+    fn assert_first(network: &Network, first: (Candidate, &[usize]), other: (Candidate, &[usize]), before: &str) {
+        let reported = |(candidate, side): (Candidate, &[usize])| {
+            let floor = floor(network, candidate.weight);
+            let verdict = if floor == candidate.weight { WHOLE } else { TREES_ONLY };
+            Answer { verdict, floor, candidate, side: side.to_vec() }
+        };
+        assert_eq!(answer(network), reported(first));
+        assert_eq!(check_demand(network, &reported(first)), Ok(()));
+        assert_eq!(check_reported(network, &reported(other)), Ok(()));
+        assert_eq!(check_demand(network, &reported(other)), Err(before.to_string()));
+    }
+
+    fn candidate(weight: u64, nodes: usize, tree: usize, first: usize, second: Option<usize>) -> Candidate {
+        Candidate { weight, nodes, tree, first, second }
+    }
+
+    /// A ring of four nodes with all weights 1: every side without a gap weighs 2.
+    fn ring(links: [(usize, usize); 4], trees: &[(u64, &[usize])]) -> Network {
+        documented::network(4, &links.map(|(first, second)| (first, second, 1)), trees)
+    }
+
     #[test]
-    fn a_heavier_shown_side_is_noticed() {
-        let network = network();
-        let candidate = Candidate { weight: 11, tree: 0, first: 0, second: None };
-        let heavier = Answer { verdict: TREES_ONLY, floor: 3, candidate, side: vec![1, 2] };
-        assert_eq!(check_reported(&network, &heavier), Ok(()));
-        assert!(check_demand(&network, &heavier).is_err());
+    fn a_heavier_side_of_fewer_nodes_is_noticed() {
+        let path = documented::network(3, &[(0, 1, 1), (1, 2, 2)], &[(0, &[0, 1])]);
+        let (both, last) = (candidate(1, 2, 0, 0, None), candidate(2, 1, 0, 1, None));
+        assert_first(&path, (both, &[1, 2]), (last, &[2]), "a lighter side is shown");
+    }
+
+    #[test]
+    fn a_side_of_more_nodes_is_noticed() {
+        let network = ring([(0, 1), (1, 2), (2, 3), (3, 0)], &[(1, &[0, 1, 2])]);
+        let (one, all) = (candidate(2, 1, 0, 0, Some(1)), candidate(2, 3, 0, 0, None));
+        assert_first(&network, (one, &[1]), (all, &[1, 2, 3]), "a side as light with fewer nodes is shown");
+    }
+
+    #[test]
+    fn a_later_tree_is_noticed() {
+        let network = ring([(0, 1), (1, 2), (2, 3), (3, 0)], &[(1, &[1, 2, 3]), (0, &[0, 1, 2])]);
+        let before = "an earlier tree shows a side as light and as small";
+        let (single, pair) = (candidate(2, 1, 0, 1, None), candidate(2, 1, 1, 0, Some(1)));
+        assert_first(&network, (single, &[1]), (pair, &[1]), before);
+    }
+
+    #[test]
+    fn a_higher_first_link_is_noticed() {
+        let network = ring([(0, 1), (1, 2), (2, 3), (3, 0)], &[(1, &[0, 1, 2])]);
+        let before = "a lower first link of the tree shows a side as light and as small";
+        let (node_1, node_2, node_3) =
+            (candidate(2, 1, 0, 0, Some(1)), candidate(2, 1, 0, 1, Some(2)), candidate(2, 1, 0, 2, None));
+        assert_first(&network, (node_1, &[1]), (node_2, &[2]), before);
+        assert_first(&network, (node_1, &[1]), (node_3, &[3]), before);
+    }
+
+    /// The lower link is link 0: it shows node 2, and with the upper one node 1.
+    #[test]
+    fn a_pair_is_noticed_where_its_first_link_shows_as_few_nodes() {
+        let triangle = documented::network(3, &[(1, 2, 1), (0, 1, 1), (0, 2, 1)], &[(1, &[0, 1])]);
+        let before = "the first link alone shows a side as light and as small";
+        let (single, pair) = (candidate(2, 1, 0, 0, None), candidate(2, 1, 0, 0, Some(1)));
+        assert_first(&triangle, (single, &[2]), (pair, &[1]), before);
+    }
+
+    /// Link 0 joins the middle nodes: with the link above it shows node 1, with the link below it node 2.
+    #[test]
+    fn a_higher_second_link_is_noticed() {
+        let network = ring([(1, 2), (0, 1), (2, 3), (3, 0)], &[(1, &[0, 1, 2])]);
+        let before = "a lower second link shows a side as light and as small";
+        let (upper, lower) = (candidate(2, 1, 0, 0, Some(1)), candidate(2, 1, 0, 0, Some(2)));
+        assert_first(&network, (upper, &[1]), (lower, &[2]), before);
     }
 
     #[test]

@@ -98,13 +98,14 @@ pub fn parse_lines(output: &str) -> Option<Printed> {
     (laid_out == output).then_some(printed)
 }
 
-/// The answer in the words of both lines. That the number of nodes is right shows when the answer is laid out again.
+/// The answer in the words of both lines, if the number of nodes in the first is that of the second.
 fn parse_answer(words: &[&str]) -> Option<Answer> {
-    let ["answer", verdict, weight, floor, tree, first, second, _, "side", side @ ..] = words else {
+    let ["answer", verdict, weight, floor, tree, first, second, nodes, "side", side @ ..] = words else {
         return None;
     };
     let candidate = Candidate {
         weight: weight.parse().ok()?,
+        nodes: nodes.parse().ok().filter(|&nodes| nodes == side.len())?,
         tree: tree.parse().ok()?,
         first: first.parse().ok()?,
         second: if *second == "-" { None } else { Some(second.parse().ok()?) },
@@ -154,7 +155,7 @@ pub fn sentence(network: &Network, answer: &Answer) -> Result<String, &'static s
     if let Some(contradiction) = contradiction(network, answer) {
         return Err(contradiction);
     }
-    let Candidate { weight, tree, first, second } = answer.candidate;
+    let Candidate { weight, tree, first, second, .. } = answer.candidate;
     let names = match second {
         None => format!("Link {first} of tree {tree} names the cut"),
         Some(second) => format!("Links {first} and {second} of tree {tree} name the cut"),

@@ -1,6 +1,7 @@
 //! Sound random networks of a given size, each with a feature that makes its answer hard to reckon.
 
 mod runs;
+mod ties;
 mod trunks;
 
 pub use trunks::{contents, with_trunks};
@@ -46,19 +47,23 @@ pub enum Feature {
     WideSums,
     /// Weights around the greatest of units already sold, around 2^31, and up to the greatest, in a range each.
     HeavyLinks,
-    /// A light side that the first trees do not show and a later one does. It takes at least [`LATER_TREE_SIZE`].
+    /// A light side that the first trees do not show and a later one does.
     LaterTree,
+    /// The same, and all trees show another side of its weight, of more nodes in some networks, of as many or fewer in others.
+    OtherSize,
     /// The first, a middle or the last tree ends the run of those that count, most often with a load one above its link's weight.
     RunEnds,
     /// The same with weights and shares up to the greatest.
     WideRun,
+    /// All links weigh the same, nothing in some networks.
+    EqualWeights,
+    /// A ring of all nodes, as far as the links go, sometimes with chords. All links weigh the same.
+    Ring,
+    /// Links between all nodes, as far as they go, and trees of any shape. All links weigh the same.
+    Complete,
 }
 
-const LATER_TREE_SIZE: Size = Size::new(4, 5, 2);
-/// The least with a middle tree.
-const RUN_SIZE: Size = Size::new(2, 1, 3);
-
-pub const FEATURES: [Feature; 13] = [
+pub const FEATURES: [Feature; 17] = [
     Feature::Any,
     Feature::Ties,
     Feature::WeightZero,
@@ -70,8 +75,12 @@ pub const FEATURES: [Feature; 13] = [
     Feature::WideSums,
     Feature::HeavyLinks,
     Feature::LaterTree,
+    Feature::OtherSize,
     Feature::RunEnds,
     Feature::WideRun,
+    Feature::EqualWeights,
+    Feature::Ring,
+    Feature::Complete,
 ];
 
 impl Feature {
@@ -88,37 +97,68 @@ impl Feature {
             Feature::WideSums => "sums of more than 32 bits",
             Feature::HeavyLinks => "heavy links",
             Feature::LaterTree => "a later tree shows the lightest",
+            Feature::OtherSize => "a later tree shows another size",
             Feature::RunEnds => "a tree ends the run",
             Feature::WideRun => "a tree ends the run, wide shares",
+            Feature::EqualWeights => "equal weights",
+            Feature::Ring => "rings of equal weights",
+            Feature::Complete => "all nodes joined, equal weights",
         }
+    }
+
+    /// The least size of a network of the feature, and for runs the least with a middle tree. With more nodes it takes as many more links.
+    fn least_size(self) -> Size {
+        match self {
+            Feature::LaterTree => Size::new(4, 5, 2),
+            Feature::OtherSize => Size::new(5, 6, 2),
+            Feature::RunEnds | Feature::WideRun => Size::new(2, 1, 3),
+            _ => Size::new(2, 1, 1),
+        }
+    }
+
+    pub fn least_nodes(self) -> usize {
+        self.least_size().nodes
     }
 }
 
 /// A size that a network of the feature can have, with nodes between the limits. Often few links and trees, sometimes many.
 pub fn random_size(random: &mut Random, least_nodes: usize, most_nodes: usize, feature: Feature) -> Size {
-    let least = match feature {
-        Feature::LaterTree => LATER_TREE_SIZE,
-        Feature::RunEnds | Feature::WideRun => RUN_SIZE,
-        _ => Size::new(2, 1, 1),
+    let least = feature.least_size();
+    let most_nodes = match feature {
+        Feature::Complete => most_nodes.min(ties::MOST_COMPLETE_NODES),
+        _ => most_nodes,
     };
     let nodes = random.between(least_nodes.max(least.nodes), most_nodes);
-    let most_more = match random.below(8) {
-        0 => 0,
-        1..4 => 4,
-        4..7 => 2 * nodes,
-        _ => 8 * nodes,
+    let links = match feature {
+        Feature::Ring => ties::ring_links(random, nodes),
+        Feature::Complete => ties::complete_links(nodes),
+        _ => nodes - least.nodes + least.links + more_links(random, nodes),
     };
-    let least_links = nodes - 1 + least.links - (least.nodes - 1);
-    let links = (least_links + random.between(0, most_more)).min(MOST_LINKS);
+    let links = links.min(MOST_LINKS);
     let most_trees = random.pick(&[1, 2, 3, 5, 8, MOST_TREES]);
     let trees = random.between(1, most_trees).max(least.trees);
     Size::new(nodes, links, trees)
 }
 
+/// How many links there are beside those that are needed: often few, sometimes many.
+fn more_links(random: &mut Random, nodes: usize) -> usize {
+    let most = match random.below(8) {
+        0 => 0,
+        1..4 => 4,
+        4..7 => 2 * nodes,
+        _ => 8 * nodes,
+    };
+    random.between(0, most)
+}
+
 /// A sound network of that size.
 pub fn network(random: &mut Random, size: Size, feature: Feature) -> Network {
     let mut network = match feature {
-        Feature::LaterTree => with_light_side(random, size),
+        Feature::LaterTree => with_light_side(random, size, 0),
+        Feature::OtherSize => {
+            let hung = random.between(1, size.nodes - Feature::LaterTree.least_nodes());
+            with_light_side(random, size, hung)
+        }
         _ => {
             let mut network = joined(random, size, feature);
             set_weights(random, &mut network, feature);
@@ -160,7 +200,12 @@ fn base_tree(random: &mut Random, nodes: usize) -> Vec<(usize, usize)> {
 /// The ends of so many links. The first join all nodes as a tree.
 fn joining_ends(random: &mut Random, size: Size, feature: Feature) -> Vec<(usize, usize)> {
     let nodes: Vec<usize> = (0..size.nodes).collect();
-    let mut ends = base_tree(random, size.nodes);
+    let mut ends = match feature {
+        Feature::Ring => ties::ring(random, size.nodes),
+        Feature::Complete => ties::all_pairs(random, size.nodes),
+        _ => base_tree(random, size.nodes),
+    };
+    ends.truncate(size.links);
     while ends.len() < size.links {
         let again = match feature {
             Feature::Parallel => !random.once_in(4),
@@ -234,6 +279,10 @@ fn members(random: &mut Random, network: &Network, base: &[usize], feature: Feat
     }
     let mut order: Vec<usize> = (0..network.links.len()).collect();
     random.shuffle(&mut order);
+    if feature == Feature::Complete {
+        let shape = base_tree(random, network.nodes);
+        order.sort_by_key(|&link| !ties::is_between(&network.links[link], &shape));
+    }
     spanning_members(network, &order)
 }
 
@@ -271,6 +320,7 @@ fn set_weights(random: &mut Random, network: &mut Network, feature: Feature) {
         Feature::HeavyLinks => random.pick(&HEAVY_WEIGHTS),
         Feature::RunEnds => random.pick(&[(0, 3), (5, 50), (1000, 2000)]),
         Feature::WideRun => (MOST_WEIGHT - random.pick(&[0, 0, 2, MOST_WEIGHT / 2]), MOST_WEIGHT),
+        Feature::EqualWeights | Feature::Ring | Feature::Complete => random.pick(&ties::WEIGHTS),
         _ => (0, random.pick(&[2, 5, 100])),
     };
     for link in &mut network.links {
@@ -374,30 +424,37 @@ fn share_out(random: &mut Random, network: &mut Network, trees: usize) {
 /// How many light links [`light_side_ends`] starts with.
 const LIGHT_LINKS: usize = 3;
 
-/// The ends of so many links: first the light ones, a path that crosses a side three times, then links that do not cross it.
-fn light_side_ends(random: &mut Random, size: Size) -> Vec<(usize, usize)> {
+/// The ends of so many links: first the light ones, a path that crosses a side three times, then the link that so many further nodes
+/// hang by, if there are any, then links that do not cross from one of these parts to another.
+fn light_side_ends(random: &mut Random, size: Size, hung: usize) -> Vec<(usize, usize)> {
     let mut order: Vec<usize> = (0..size.nodes).collect();
     random.shuffle(&mut order);
-    let (inside, outside) = order.split_at(random.between(2, size.nodes - 2));
+    let (hung, others) = order.split_at(hung);
+    let (inside, outside) = others.split_at(random.between(2, others.len() - 2));
     let mut ends = vec![(inside[0], outside[0]), (outside[0], inside[1]), (inside[1], outside[1])];
-    for part in [inside, outside] {
+    ends.extend(hung.first().map(|&node| (node, random.pick(others))));
+    for part in [inside, outside, hung] {
         ends.extend((1..part.len()).map(|place| (part[random.below(place)], part[place])));
     }
+    let large: Vec<&[usize]> = [inside, outside, hung].into_iter().filter(|part| part.len() > 1).collect();
     while ends.len() < size.links {
-        let part = random.pick(&[inside, outside]);
+        let part = random.pick(&large);
         ends.push(two_of(random, part));
     }
     ends
 }
 
-/// A network with one light side: the first trees hold all three links across it, the later ones a single one.
-fn with_light_side(random: &mut Random, size: Size) -> Network {
-    let ends = light_side_ends(random, size);
+/// A network with one light side, or another one of its weight if so many nodes hang by a link. The first trees hold all three links
+/// across the light side, the later ones a single one.
+fn with_light_side(random: &mut Random, size: Size, hung: usize) -> Network {
+    let ends = light_side_ends(random, size, hung);
     let mut places: Vec<usize> = (0..ends.len()).collect();
     random.shuffle(&mut places);
-    let mut network = without_trees(size.nodes, &ends, &places, |place| {
-        let (least, most) = if place < LIGHT_LINKS { (0, 3) } else { (100, 200) };
-        random.between(least, most) as u64
+    let light = [0; LIGHT_LINKS].map(|_| random.below(4) as u64);
+    let mut network = without_trees(size.nodes, &ends, &places, |place| match place {
+        0..LIGHT_LINKS => light[place],
+        LIGHT_LINKS if hung > 0 => light.iter().sum(),
+        _ => random.between(100, 200) as u64,
     });
     let hiding = match random.once_in(2) {
         true => size.trees - 1,
@@ -417,7 +474,9 @@ fn with_light_side(random: &mut Random, size: Size) -> Network {
 mod tests {
     use super::*;
     use crate::cuts::Counting;
-    use crate::{every_side, sold, text};
+    use crate::sold::Answers;
+    use crate::{every_side, text};
+    use std::cmp::Ordering;
     use std::collections::BTreeSet;
 
     fn small(random: &mut Random, feature: Feature) -> Network {
@@ -438,12 +497,11 @@ mod tests {
                 assert_eq!(sheet::read_contents(&longer), Ok(contents.clone()));
                 let parsed = text::parse(text::write(&contents).as_bytes());
                 assert_eq!(parsed.map(|parsed| parsed.contents), Ok(contents));
-                let answer = cuts::answer(&network);
-                assert_eq!(answer, every_side::answer(&network));
-                assert_eq!(every_side::check_demand(&network, &answer), Ok(()));
+                let answers = Answers::of(&network);
+                assert_eq!(answers.current, every_side::answer(&network));
+                assert_eq!(every_side::check_demand(&network, &answers.current), Ok(()));
                 assert_eq!(every_side::check_candidates(&network), Ok(()));
-                let sold = cuts::answer_by(Counting::AllOrNone, &network);
-                assert_eq!(sold::check(&network, &sold, &answer), Ok(()));
+                assert_eq!(answers.check(&network), Ok(()));
             }
         }
     }
@@ -534,5 +592,24 @@ mod tests {
             behind_the_run += usize::from(tree >= cuts::longest_run(&network));
         }
         assert!((30..100).contains(&behind_the_run), "{behind_the_run}");
+    }
+
+    #[test]
+    fn later_trees_show_sides_of_other_sizes() {
+        let mut random = Random::new(5);
+        let (mut smaller, mut as_small) = (0, 0);
+        for _ in 0..400 {
+            let network = small(&mut random, Feature::OtherSize);
+            let of = |trees: &[Tree]| cuts::answer(&Network { trees: trees.to_vec(), ..network.clone() });
+            let (first, later) = (of(&network.trees[..1]), of(&network.trees[1..]));
+            assert_eq!(first.candidate.weight, later.candidate.weight);
+            let reported = cuts::answer(&network);
+            match later.candidate.nodes.cmp(&first.candidate.nodes) {
+                Ordering::Less => smaller += usize::from(reported.candidate.tree > 0 && reported.side == later.side),
+                Ordering::Equal => as_small += usize::from(reported.side == first.side && first.side != later.side),
+                Ordering::Greater => panic!("the later trees show the first tree's side too"),
+            }
+        }
+        assert!(smaller > 100 && as_small > 4, "{smaller} {as_small}");
     }
 }

@@ -35,7 +35,7 @@ pub fn report_area(answer: &Answer) -> [u8; REPORT_BYTES] {
     let mut area = [0; REPORT_BYTES];
     area[0] = answer.verdict;
     area[1] = candidate.tree as u8;
-    area[2..4].copy_from_slice(&(answer.side.len() as u16).to_le_bytes());
+    area[2..4].copy_from_slice(&(candidate.nodes as u16).to_le_bytes());
     area[4..6].copy_from_slice(&(candidate.first as u16).to_le_bytes());
     area[6..8].copy_from_slice(&second.to_le_bytes());
     area[8..16].copy_from_slice(&candidate.weight.to_le_bytes());
@@ -53,13 +53,7 @@ pub fn lines(outcome: &Outcome) -> String {
     let second = candidate.second.map_or("-".to_string(), |second| second.to_string());
     let mut lines = format!(
         "answer {} {} {} {} {} {} {}\nside",
-        answer.verdict,
-        candidate.weight,
-        answer.floor,
-        candidate.tree,
-        candidate.first,
-        second,
-        answer.side.len()
+        answer.verdict, candidate.weight, answer.floor, candidate.tree, candidate.first, second, candidate.nodes
     );
     for node in &answer.side {
         lines.push_str(&format!(" {node}"));
@@ -89,7 +83,7 @@ mod tests {
     #[test]
     fn areas_have_the_documented_layout() {
         let weight = 0x1112_1314_0102_0304;
-        let candidate = Candidate { weight, tree: 31, first: 0x0506, second: Some(0x0708) };
+        let candidate = Candidate { weight, nodes: 4, tree: 31, first: 0x0506, second: Some(0x0708) };
         let floor = 0x1A1B_1C1D_0A0B_0C0D;
         let mut answer = Answer { verdict: 1, floor, candidate, side: vec![1, 8, 15, 255] };
         let start = [1, 31, 4, 0, 6, 5, 8, 7];

@@ -33,7 +33,7 @@ fn refusal_numbers_are_1_to_16() {
 #[test]
 fn lines_are_read() {
     assert_eq!(parse_lines("refused 16\n"), Some(Printed::Refused(16)));
-    let pair = Candidate { weight: 20, tree: 3, first: 4, second: Some(50) };
+    let pair = Candidate { weight: 20, nodes: 2, tree: 3, first: 4, second: Some(50) };
     let expected = Answer { verdict: 1, floor: 6, candidate: pair, side: vec![7, 255] };
     assert_eq!(answer("answer 1 20 6 3 4 50 2\nside 7 255\n"), expected);
     assert_eq!(answer("answer 2 5 5 0 0 - 1\nside 1\n").candidate.second, None);
@@ -56,6 +56,8 @@ fn lines_of_another_layout_are_not_read() {
         "answer 2 5 5 0 0 - 1\nside  1\n",
         "answer 2 5 5 0 0 - 1\n side 1\n",
         "answer 2 5 5 0 0 - 2\nside 1\n",
+        "answer 2 5 5 0 0 - 01\nside 1\n",
+        "answer 2 5 5 0 0 - x\nside 1\n",
         "answer 2 5 5 0 0 1\nside 1\n",
         "answer 2 5 5 0 0 x 1\nside 1\n",
         "answer 2 +5 5 0 0 - 1\nside 1\n",
@@ -71,14 +73,14 @@ fn lines_of_another_layout_are_not_read() {
 fn a_certified_cut_is_the_lightest_of_all() {
     assert_sentence(
         &format!("{RING}tree share 1 links 0 1 2"),
-        "answer 2 2 2 0 0 - 3\nside 1 2 3\n",
-        Ok("Link 0 of tree 0 names the cut: it severs nodes 1, 2 and 3 from node 0, and the links that it crosses weigh 2 \
+        "answer 2 2 2 0 0 1 1\nside 1\n",
+        Ok("Links 0 and 1 of tree 0 name the cut: it severs node 1 from node 0, and the links that it crosses weigh 2 \
             together. No cut of the whole network weighs less."),
     );
     assert_sentence(
-        "nodes 3\nlink 0-1:1\nlink 1-2:1\nlink 0-2:10\ntree share 1 links 0 1",
-        "answer 2 2 2 0 0 1 1\nside 1\n",
-        Ok("Links 0 and 1 of tree 0 name the cut: it severs node 1 from node 0, and the links that it crosses weigh 2 \
+        "nodes 4\nlink 0-1:1\nlink 1-2:5\nlink 2-3:5\nlink 3-0:1\ntree share 1 links 0 1 2",
+        "answer 2 2 2 0 0 - 3\nside 1 2 3\n",
+        Ok("Link 0 of tree 0 names the cut: it severs nodes 1, 2 and 3 from node 0, and the links that it crosses weigh 2 \
             together. No cut of the whole network weighs less."),
     );
 }
@@ -142,8 +144,8 @@ fn a_certified_cut_needs_no_reason() {
 fn a_floor_of_0_has_its_reason() {
     assert_sentence(
         &format!("{RING}tree share 0 links 0 1 2\ntree share 0 links 1 2 3"),
-        "answer 1 2 0 0 0 - 3\nside 1 2 3\n",
-        Ok("Link 0 of tree 0 names the cut: it severs nodes 1, 2 and 3 from node 0, and the links that it crosses weigh 2 \
+        "answer 1 2 0 0 0 1 1\nside 1\n",
+        Ok("Links 0 and 1 of tree 0 name the cut: it severs node 1 from node 0, and the links that it crosses weigh 2 \
             together. No cut that the listed trees show is lighter. All shares are 0, so nothing is known of the cuts \
             that no tree shows."),
     );

@@ -213,15 +213,15 @@ const OUTER_END: &str = "link 1 ends at node 3, and the nodes are 0 to 2";
 const FEW_MEMBERS: &str = "tree 0 names 1 of the links, and a tree of 3 nodes has 2";
 const NOT_JOINED: &str = "the links of tree 0 do not join every node to node 0";
 
-/// The networks of `examples/` and their reports, by name. The lettered ones are document 01's. In the works network halls B to
-/// E, with links of 100, 100 and 50 to the rest, are the only nodes that hang by less than 300.
+/// The networks of `examples/` and their reports, by name. The lettered ones are document 01's, with the answers of request F-6. In the
+/// works network halls B to E, with links of 100, 100 and 50 to the rest, are the only nodes that hang by less than 300.
 const EXAMPLES: [(&str, &str); 22] = [
     ("a-triangle.net", "answer 2 5 5 0 0 - 1\nside 1\n"),
     ("b-triangle-low-share.net", "answer 1 5 3 0 0 - 1\nside 1\n"),
-    ("c-ring.net", "answer 2 2 2 0 0 - 3\nside 1 2 3\n"),
-    ("d-ring-no-share.net", "answer 1 2 0 0 0 - 3\nside 1 2 3\n"),
+    ("c-ring.net", "answer 2 2 2 0 0 1 1\nside 1\n"),
+    ("d-ring-no-share.net", "answer 1 2 0 0 0 1 1\nside 1\n"),
     ("e-two-links.net", "answer 2 2 2 0 0 1 1\nside 1\n"),
-    ("f-hidden-cut.net", "answer 1 11 3 0 0 - 3\nside 1 2 3\n"),
+    ("f-hidden-cut.net", "answer 1 11 3 0 2 - 1\nside 3\n"),
     ("g-weight-0.net", "answer 2 0 0 0 0 - 1\nside 1\n"),
     ("h-share-1.net", "answer 1 4 3 0 0 - 1\nside 1\n"),
     ("h-share-2.net", "answer 2 4 4 0 0 - 1\nside 1\n"),
@@ -229,8 +229,8 @@ const EXAMPLES: [(&str, &str); 22] = [
     ("h-share-5.net", "answer 1 4 0 0 0 - 1\nside 1\n"),
     ("h-two-shares.net", "answer 2 4 4 0 0 - 1\nside 1\n"),
     ("heavy-links.net", "answer 2 12500000 12500000 0 3 - 1\nside 3\n"),
-    ("i-two-trees.net", "answer 1 2 0 0 0 - 3\nside 1 2 3\n"),
-    ("later-survey.net", "answer 1 80 60 0 0 - 4\nside 1 2 3 4\n"),
+    ("i-two-trees.net", "answer 1 2 0 0 0 1 1\nside 1\n"),
+    ("later-survey.net", "answer 1 80 60 0 0 1 1\nside 1\n"),
     ("refused-04-one-node.net", "refused 4\n"),
     ("refused-05-few-links.net", "refused 5\n"),
     ("refused-06-no-tree.net", "refused 6\n"),

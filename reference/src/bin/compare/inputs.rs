@@ -60,7 +60,7 @@ fn long_input(judge: &mut Judge, input: &[u8]) -> Judged {
     if whole != read {
         return judge.differs(input, report::lines(&whole), report::lines(&read));
     }
-    judge.expect(input, &whole, Through::All)
+    judge.sheet(input, Through::All)
 }
 
 /// Inputs sent in pieces with pauses, so that the programs' reads come short.

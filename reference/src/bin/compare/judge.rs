@@ -5,13 +5,13 @@ use std::io;
 use std::path::{Path, PathBuf};
 use std::thread;
 
-use reference::cuts::{self, Answer, Counting};
+use reference::cuts;
 use reference::network::Network;
 use reference::random::Random;
 use reference::report::{self, Outcome, REPORT_BYTES, SIDE_BYTES};
-use reference::sheet::{self, Reading};
+use reference::sheet::{self, Reading, Refusal};
+use reference::sold::Answers;
 use reference::trunks::{Readings, Seen};
-use reference::{every_side, sold};
 
 use crate::entry::{self, Lent};
 use crate::program::{self, Run};
@@ -59,6 +59,9 @@ impl Stop {
 
 pub type Judged = Result<(), Stop>;
 
+/// What is expected of a sheet: a refusal, or the answers of its network by the rules in force and by those before.
+pub type Expected = Result<Answers, Refusal>;
+
 /// Which way a sheet goes: to the entry, or to both programs too.
 #[derive(Clone, Copy)]
 pub enum Through {
@@ -87,7 +90,7 @@ pub struct Row {
 
 /// How many of the accepted cases have which answer.
 #[derive(Default)]
-pub struct Answers {
+pub struct Accepted {
     pub whole: u64,
     pub floor_zero: u64,
     pub pair: u64,
@@ -140,13 +143,35 @@ impl Trunked {
     }
 }
 
+/// How many accepted cases have another answer than by the rules of units already sold.
+#[derive(Default)]
+pub struct Before {
+    /// Another floor, and another verdict, by their rule for the trees that count.
+    pub floor: u64,
+    pub verdict: u64,
+    /// Another candidate by their order, of the same tree and of another.
+    pub same_tree: u64,
+    pub other_tree: u64,
+}
+
+impl Before {
+    fn count(&mut self, answers: &Answers) {
+        let Answers { current, listed, base } = answers;
+        self.floor += u64::from(listed.floor != base.floor);
+        self.verdict += u64::from(listed.verdict != base.verdict);
+        let same_tree = current.candidate.tree == listed.candidate.tree;
+        self.same_tree += u64::from(same_tree && current.candidate != listed.candidate);
+        self.other_tree += u64::from(!same_tree);
+    }
+}
+
 pub struct Judge {
     programs: Programs,
     /// For the lengths and patterns of areas, and for which sheets go through the programs too.
     random: Random,
     pub rows: Vec<Row>,
     current_row: usize,
-    pub answers: Answers,
+    pub accepted: Accepted,
     pub runs: Runs,
     /// How many cases were refused by each number.
     pub refusals: [u64; LAST_REFUSAL + 1],
@@ -157,9 +182,7 @@ pub struct Judge {
     /// How many sheets units already sold read the same.
     pub as_sold: u64,
     pub trunked: Trunked,
-    /// How many cases have another floor, and another verdict, than by the rule of units already sold.
-    pub other_floor: u64,
-    pub other_verdict: u64,
+    pub before: Before,
 }
 
 impl Judge {
@@ -169,15 +192,14 @@ impl Judge {
             random: Random::new(!seed),
             rows: vec![Row::default()],
             current_row: 0,
-            answers: Answers::default(),
+            accepted: Accepted::default(),
             runs: Runs::default(),
             refusals: [0; LAST_REFUSAL + 1],
             by_every_side: 0,
             longer: 0,
             as_sold: 0,
             trunked: Trunked::default(),
-            other_floor: 0,
-            other_verdict: 0,
+            before: Before::default(),
         }
     }
 
@@ -204,10 +226,12 @@ impl Judge {
         self.rows.iter().map(|row| row.entry + row.report + row.trunks).sum()
     }
 
-    /// Sheets with bit 3 of every kind that is counted have to be among the cases.
-    pub fn saw_trunks(&self) -> Judged {
+    /// Sheets with bit 3 of every kind that is counted, and answers that the order alters, have to be among the cases.
+    pub fn saw_all(&self) -> Judged {
         let Trunked { sheets, accepted, cut_off, raised } = self.trunked;
         let counts = [
+            (self.before.same_tree, "a side of the same tree that is first by fewer nodes"),
+            (self.before.other_tree, "a side of another tree that is first by fewer nodes"),
             (accepted, "a trunk number in an accepted sheet"),
             (cut_off, "a trunk number that is cut off"),
             (sheets - raised, "a trunk number that units already sold refuse with 8"),
@@ -231,27 +255,29 @@ impl Judge {
     /// The sheet's answer is the reference's.
     pub fn sheet(&mut self, sheet: &[u8], through: Through) -> Judged {
         let readings = Readings::of(sheet);
-        self.judged(sheet, &report::outcome_of(&readings.current), &readings, through)
+        let answers = readings.current.as_ref().map(|contents| Answers::of(&contents.network));
+        self.judged(sheet, &answers.map_err(|refusal| *refusal), &readings, through)
     }
 
     /// The sheet's answer is the expected one, and a refusal is the reference's too.
-    pub fn expect(&mut self, sheet: &[u8], expected: &Outcome, through: Through) -> Judged {
+    pub fn expect(&mut self, sheet: &[u8], expected: &Expected, through: Through) -> Judged {
         self.judged(sheet, expected, &Readings::of(sheet), through)
     }
 
-    fn judged(&mut self, sheet: &[u8], expected: &Outcome, readings: &Readings, through: Through) -> Judged {
-        self.count(expected);
-        self.reads_as_before(sheet, expected, readings)?;
-        if let (Ok(answer), Ok(contents)) = (expected, &readings.current) {
+    fn judged(&mut self, sheet: &[u8], expected: &Expected, readings: &Readings, through: Through) -> Judged {
+        let outcome = expected.as_ref().map(|answers| answers.current.clone()).map_err(|refusal| *refusal);
+        self.count(&outcome);
+        self.reads_as_before(sheet, &outcome, readings)?;
+        if let (Ok(answers), Ok(contents)) = (expected, &readings.current) {
             self.runs.count(&contents.network);
-            self.keeps_of_sold(sheet, &contents.network, answer)?;
+            self.keeps_of_sold(sheet, &contents.network, answers)?;
         }
         let side_length = self.random.between(SIDE_BYTES, LONGEST_AREA);
         let report_length = self.random.between(REPORT_BYTES, LONGEST_AREA);
-        self.through_entry(sheet, expected, side_length, report_length)?;
+        self.through_entry(sheet, &outcome, side_length, report_length)?;
         match through {
             Through::Entry => Ok(()),
-            Through::All => self.through_programs(sheet, expected, &readings.current, &[]),
+            Through::All => self.through_programs(sheet, &outcome, &readings.current, &[]),
         }
     }
 
@@ -271,18 +297,13 @@ impl Judge {
         }
     }
 
-    /// The expected answer keeps what it has to of the one by the rule of units already sold. For that one, small networks are
-    /// searched once more.
-    fn keeps_of_sold(&mut self, sheet: &[u8], network: &Network, answer: &Answer) -> Judged {
-        let sold = match network.nodes <= every_side::MOST_NODES {
-            true => cuts::answer_by(Counting::AllOrNone, network),
-            false => answer.by(Counting::AllOrNone, network),
-        };
-        self.other_floor += u64::from(answer.floor != sold.floor);
-        self.other_verdict += u64::from(answer.verdict != sold.verdict);
-        match sold::check(network, &sold, answer) {
+    /// The expected answer keeps what it has to of those by the rules of units already sold.
+    fn keeps_of_sold(&mut self, sheet: &[u8], network: &Network, answers: &Answers) -> Judged {
+        self.before.count(answers);
+        let Answers { current, listed, base } = answers;
+        match answers.check(network) {
             Ok(()) => Ok(()),
-            Err(claim) => self.differs(sheet, format!("{claim}: {sold:?}\n"), format!("{answer:?}\n")),
+            Err(claim) => self.differs(sheet, format!("{claim}: {base:?}, {listed:?}\n"), format!("{current:?}\n")),
         }
     }
 
@@ -315,13 +336,13 @@ impl Judge {
             Err(refusal) => self.count_refusal(refusal.number),
             Ok(answer) => {
                 self.row().accepted += 1;
-                self.answers.whole += u64::from(answer.verdict == cuts::WHOLE);
-                self.answers.floor_zero += u64::from(answer.floor == 0);
-                self.answers.pair += u64::from(answer.candidate.second.is_some());
-                self.answers.later_tree += u64::from(answer.candidate.tree > 0);
+                self.accepted.whole += u64::from(answer.verdict == cuts::WHOLE);
+                self.accepted.floor_zero += u64::from(answer.floor == 0);
+                self.accepted.pair += u64::from(answer.candidate.second.is_some());
+                self.accepted.later_tree += u64::from(answer.candidate.tree > 0);
                 let wide = |number: u64| u64::from(number > u64::from(u32::MAX));
-                self.answers.wide_weight += wide(answer.candidate.weight);
-                self.answers.wide_floor += wide(answer.floor);
+                self.accepted.wide_weight += wide(answer.candidate.weight);
+                self.accepted.wide_floor += wide(answer.floor);
             }
         }
     }

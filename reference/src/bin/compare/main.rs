@@ -14,7 +14,7 @@ use std::path::PathBuf;
 use std::process::ExitCode;
 use std::time::{SystemTime, UNIX_EPOCH};
 
-use judge::{Judge, Judged, Programs, Runs, Stop, Trunked};
+use judge::{Before, Judge, Judged, Programs, Runs, Stop, Trunked};
 use networks::Counts;
 use reference::random::Random;
 
@@ -67,10 +67,10 @@ fn fixed_share(judge: &mut Judge, random: &mut Random) -> Judged {
     sheets::changed_bytes(judge, random, 1000)?;
     inputs::long_inputs(judge, random)?;
     inputs::short_reads(judge, random)?;
-    networks::of_every_feature(judge, random, &Counts { small: 600, middle: 80, large: 6 })?;
+    networks::of_every_feature(judge, random, &Counts { small: 500, middle: 65, large: 5 })?;
     networks::at_the_limits(judge, random)?;
     shapes::of_every_kind(judge, random, 300)?;
-    judge.saw_trunks()
+    judge.saw_all()
 }
 
 fn print_table(judge: &Judge) {
@@ -81,12 +81,12 @@ fn print_table(judge: &Judge) {
             row.kind, row.entry, row.report, row.trunks, row.accepted, row.refused
         );
     }
-    let answers = &judge.answers;
+    let accepted = &judge.accepted;
     println!(
         "accepted: {} whole, {} with floor 0, {} by a pair, {} by a later tree",
-        answers.whole, answers.floor_zero, answers.pair, answers.later_tree
+        accepted.whole, accepted.floor_zero, accepted.pair, accepted.later_tree
     );
-    println!("of more than four bytes: {} weights, {} floors", answers.wide_weight, answers.wide_floor);
+    println!("of more than four bytes: {} weights, {} floors", accepted.wide_weight, accepted.wide_floor);
     let Runs { first, middle, last } = judge.runs;
     println!("not all trees count: the first ends the run in {first}, a middle one in {middle}, the last in {last}");
     let numbers = judge.refusals.iter().enumerate().skip(1);
@@ -96,10 +96,9 @@ fn print_table(judge: &Judge) {
     let Trunked { sheets, accepted, cut_off, raised } = judge.trunked;
     println!("with bit 3: {sheets}, of them accepted: {accepted}, with a trunk number cut off: {cut_off}");
     println!("refused by units already sold for bit 3: {} with 8, {raised} with 11 first", sheets - raised);
-    println!(
-        "another floor than by the rule of units already sold: {}, another verdict: {}",
-        judge.other_floor, judge.other_verdict
-    );
+    let Before { floor, verdict, same_tree, other_tree } = judge.before;
+    println!("another floor than by the rule of units already sold: {floor}, another verdict: {verdict}");
+    println!("another side than by their order: {same_tree} of the same tree, {other_tree} of another");
     println!(
         "networks: {} by every side too, {} in a longer sheet than the shortest",
         judge.by_every_side, judge.longer

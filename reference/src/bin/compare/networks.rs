@@ -5,6 +5,7 @@ use reference::network::Network;
 use reference::random::Random;
 use reference::report;
 use reference::sheet::{self, LEAST_NODES, MOST_LINKS, MOST_NODES, MOST_TREES};
+use reference::sold::Answers;
 use reference::{cuts, every_side};
 
 use crate::judge::{Judge, Judged, Through};
@@ -77,12 +78,11 @@ fn limits() -> Vec<(Size, Feature)> {
         for (nodes, links) in [(4, 5), (5, 20), (9, 64), (10, 65), (30, MOST_LINKS)] {
             limits.push((Size::new(nodes, links, MOST_TREES), feature));
         }
-        if feature != Feature::LaterTree {
-            for (links, trees) in [(1, 1), (1, MOST_TREES), (MOST_LINKS, 1), (MOST_LINKS, MOST_TREES)] {
-                limits.push((Size::new(LEAST_NODES, links, trees), feature));
-            }
+        for (links, trees) in [(1, 1), (1, MOST_TREES), (MOST_LINKS, 1), (MOST_LINKS, MOST_TREES)] {
+            limits.push((Size::new(LEAST_NODES, links, trees), feature));
         }
     }
+    limits.retain(|(size, feature)| size.nodes >= feature.least_nodes());
     limits
 }
 
@@ -105,11 +105,11 @@ pub fn judged(judge: &mut Judge, random: &mut Random, network: Network, through:
         return judge.differs(&sheet, format!("{contents:?}\n"), format!("{read:?}, by the reference's reader\n"));
     }
     let network = &contents.network;
-    let answer = cuts::answer(network);
+    let answers = Answers::of(network);
     if network.nodes <= every_side::MOST_NODES {
-        by_every_side(judge, network, &sheet, &answer)?;
+        by_every_side(judge, network, &sheet, &answers.current)?;
     }
-    judge.expect(&sheet, &Ok(answer), through)
+    judge.expect(&sheet, &Ok(answers), through)
 }
 
 /// The same answer by every side, and the demands on it.

@@ -14,11 +14,10 @@ pub fn documented(judge: &mut Judge) -> Judged {
     judge.kind("the documents' networks");
     for case in documented::all() {
         let reading = sheet::read_contents(&case.sheet);
-        let outcome = report::outcome_of(&reading);
-        let lines = report::lines(&outcome) + &report::trunk_lines(&reading);
+        let lines = report::lines(&report::outcome_of(&reading)) + &report::trunk_lines(&reading);
         let expected = case.lines + &case.trunk_lines;
         let judged = match lines == expected {
-            true => judge.expect(&case.sheet, &outcome, Through::All),
+            true => judge.sheet(&case.sheet, Through::All),
             false => judge.differs(&case.sheet, expected, lines + "by the reference\n"),
         };
         judged.map_err(|stop| stop.of_case(&case.name))?;
