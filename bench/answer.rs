@@ -20,12 +20,13 @@ impl Outcome {
     }
 }
 
-/// The lightest candidate so far; a single link stands in both places. The side has one mark a node, 0 or 1.
+/// The first candidate so far; a single link stands in both places. The side has one mark a node, 0 or 1.
 pub struct Found {
+    pub weight: u64,
+    pub nodes: u16,
     pub tree: u8,
     pub first: u16,
     pub second: u16,
-    pub weight: u64,
     pub side: Vec<u8>,
 }
 
@@ -75,11 +76,10 @@ fn write_side(area: &mut [u8], side: &[u8]) {
 }
 
 fn write_report(area: &mut [u8], found: &Found, floor: u64) {
-    let count: u16 = found.side.iter().map(|&mark| mark as u16).sum();
     let second = if found.first == found.second { NO_SECOND } else { found.second };
     area[0] = if floor == found.weight { 2 } else { 1 };
     area[1] = found.tree;
-    area[2..4].copy_from_slice(&count.to_le_bytes());
+    area[2..4].copy_from_slice(&found.nodes.to_le_bytes());
     area[4..6].copy_from_slice(&found.first.to_le_bytes());
     area[6..8].copy_from_slice(&second.to_le_bytes());
     area[8..16].copy_from_slice(&found.weight.to_le_bytes());

@@ -20,7 +20,7 @@ fn mark_below(marks: &mut [u8], tree: &Tree, link: u16) {
 }
 
 fn search_trees(sheet: &Sheet) -> Found {
-    let mut best = Found { tree: 0, first: 0, second: 0, weight: u64::MAX, side: vec![0; sheet.nodes] };
+    let mut best = Found { weight: u64::MAX, nodes: 0, tree: 0, first: 0, second: 0, side: vec![0; sheet.nodes] };
     for (number, record) in sheet.trees.iter().enumerate() {
         if let Some(tree) = grow_tree(record.map, sheet.nodes, &sheet.links) {
             search_tree(&tree, number as u8, sheet, &mut best);
@@ -36,13 +36,13 @@ fn search_tree(tree: &Tree, number: u8, sheet: &Sheet, best: &mut Found) {
     let mut side = vec![0; sheet.nodes];
     for (i, &first) in tree.members.iter().enumerate() {
         mark_below(&mut lower, tree, first);
-        keep_lighter(best, number, first, first, singles[i], &lower);
+        keep_first(best, number, first, first, singles[i], &lower);
         for (j, &second) in tree.members.iter().enumerate().skip(i + 1) {
-            if singles[i].abs_diff(singles[j]) < best.weight {
+            if singles[i].abs_diff(singles[j]) <= best.weight {
                 mark_below(&mut side, tree, second);
                 differ(&mut side, &lower);
                 let weight = weigh(&side, &sheet.links);
-                keep_lighter(best, number, first, second, weight, &side);
+                keep_first(best, number, first, second, weight, &side);
             }
         }
     }
@@ -68,12 +68,18 @@ fn weigh(side: &[u8], links: &[Link]) -> u64 {
     links.iter().map(|l| crossed(l) as u64 * l.weight as u64).sum()
 }
 
-fn keep_lighter(best: &mut Found, tree: u8, first: u16, second: u16, weight: u64, side: &[u8]) {
-    if weight < best.weight {
+/// Keeps the side if it is lighter, or as light with fewer nodes: the candidates come in the order of trees and links.
+fn keep_first(best: &mut Found, tree: u8, first: u16, second: u16, weight: u64, side: &[u8]) {
+    if weight > best.weight {
+        return;
+    }
+    let nodes = side.iter().map(|&mark| mark as u16).sum();
+    if weight < best.weight || nodes < best.nodes {
+        best.weight = weight;
+        best.nodes = nodes;
         best.tree = tree;
         best.first = first;
         best.second = second;
-        best.weight = weight;
         best.side.copy_from_slice(side);
     }
 }

@@ -5,11 +5,11 @@ use crate::places::{AtNodes, Grown, Placed};
 use crate::read::Sheet;
 use crate::rows::Rows;
 
-/// A single link, which stands in both places, or two, the lower one first. The order of the fields is document 01's order among
-/// candidates.
+/// A single link, which stands in both places, or two, the lower one first. The order of the fields is the order among candidates.
 #[derive(Clone, Copy, PartialEq, Eq, PartialOrd, Ord)]
 struct Candidate {
     weight: u64,
+    nodes: u16,
     tree: u8,
     first: u16,
     second: u16,
@@ -18,7 +18,7 @@ struct Candidate {
 pub fn search(sheet: &Sheet) -> Found {
     let links = AtNodes::list(sheet.nodes, sheet.links.iter().map(|l| (l.first, l.second, l.weight)));
     let degrees = degrees(sheet);
-    let mut best = Candidate { weight: u64::MAX, tree: 0, first: 0, second: 0 };
+    let mut best = Candidate { weight: u64::MAX, nodes: 0, tree: 0, first: 0, second: 0 };
     let mut side = Vec::new();
     for (number, record) in sheet.trees.iter().enumerate() {
         let grown = Grown::new(sheet.nodes, &sheet.links, &record.members);
@@ -29,7 +29,8 @@ pub fn search(sheet: &Sheet) -> Found {
             side = mark_side(&placed, &best);
         }
     }
-    Found { tree: best.tree, first: best.first, second: best.second, weight: best.weight, side }
+    let Candidate { weight, nodes, tree, first, second } = best;
+    Found { weight, nodes, tree, first, second, side }
 }
 
 /// The weight of the links at each node.
@@ -48,24 +49,37 @@ fn search_tree(links: &AtNodes<u32>, placed: &Placed, tree: u8, before: Candidat
     let mut best = before;
     for u in (1..placed.nodes.len()).rev() {
         rows.make(u);
-        best = search_row(&rows, &placed.uplinks, u, tree, best);
+        search_row(&rows, u, tree, &mut best);
     }
     best
 }
 
-/// The first of what was found before and the candidates of the row of place `u`. As part of its caller, the loop would not keep all
-/// its values in registers.
+/// Keeps the first of what was found before and the candidates of the row of place `u`. As part of its caller, the loop would not keep
+/// all its values in registers.
 #[inline(never)]
-fn search_row(rows: &Rows, uplinks: &[u16], u: usize, tree: u8, before: Candidate) -> Candidate {
-    let link = uplinks[u];
-    let mut best = before.min(Candidate { weight: rows.single(u), tree, first: link, second: link });
-    for (v, weight) in rows.pairs(u) {
+fn search_row(rows: &Rows, u: usize, tree: u8, best: &mut Candidate) {
+    let placed = rows.placed;
+    let weight = rows.single(u);
+    if weight <= best.weight {
+        let link = placed.uplinks[u];
+        *best = (*best).min(Candidate { weight, nodes: placed.below(u), tree, first: link, second: link });
+    }
+    for (behind, weight) in rows.pairs(u).enumerate() {
         if weight <= best.weight {
-            let other = uplinks[v];
-            best = best.min(Candidate { weight, tree, first: link.min(other), second: link.max(other) });
+            keep_first(placed, u, behind, tree, weight, best);
         }
     }
-    best
+}
+
+/// Keeps the first of what was found before and the pair of place `u` and the one so many behind the next. Few pairs are so light; as part
+/// of its caller's loop, it would take registers from the others.
+#[cold]
+#[inline(never)]
+fn keep_first(placed: &Placed, u: usize, behind: usize, tree: u8, weight: u64, best: &mut Candidate) {
+    let v = u + 1 + behind;
+    let (one, other) = (placed.uplinks[u], placed.uplinks[v]);
+    let nodes = placed.below_one(u, v);
+    *best = (*best).min(Candidate { weight, nodes, tree, first: one.min(other), second: one.max(other) });
 }
 
 /// Marks the nodes below exactly one of a candidate's links.

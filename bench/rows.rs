@@ -6,7 +6,7 @@ use crate::places::{AtNodes, Placed};
 pub struct Rows<'a> {
     /// The links at each node, with their weights.
     links: &'a AtNodes<u32>,
-    placed: &'a Placed,
+    pub placed: &'a Placed,
     /// For each place, the weight of the links between it and the places below the row's link.
     between: Vec<u64>,
     /// From the row's place on, the sums of what crosses the row's link at each place.
@@ -63,13 +63,13 @@ impl<'a> Rows<'a> {
         self.singles[u]
     }
 
-    /// Each place behind the row's place `u`, with what its link and that at `u` weigh as a pair.
-    pub fn pairs(&self, u: usize) -> impl Iterator<Item = (usize, u64)> + '_ {
+    /// What the link at the row's place `u` weighs as a pair with the link of each place behind it.
+    pub fn pairs(&self, u: usize) -> impl Iterator<Item = u64> + '_ {
         let single = self.singles[u];
         let behind = self.crossing[u + 1..].iter().zip(&self.placed.stops[u + 1..]).zip(&self.singles[u + 1..]);
-        behind.enumerate().map(move |(i, ((crossing, &stop), other))| {
+        behind.map(move |((crossing, &stop), other)| {
             let shared = self.crossing[stop] - crossing;
-            (u + 1 + i, single + other - 2 * shared)
+            single + other - 2 * shared
         })
     }
 }
