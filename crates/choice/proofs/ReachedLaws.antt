@@ -1,31 +1,32 @@
 -- A search by rows on its way: what is found says the first of what was found before the tree and of the candidates tried so far.
 -- Assumes nothing.
-use Prim.Native.Nat.{ℕ, _+_, _≤_, _<_}
-use mathlib.Core.Path.{_≡_, refl, sym, subst}
+use Prim.Native.Nat.{ℕ, _+_, _≤_, _<_, min, max}
+use mathlib.Core.Path.{_≡_, sym, ap₂, _∙_, subst}
 use mathlib.Core.Logic.{inl}
-use mathlib.Core.Bool.{Bool, false, cond}
+use mathlib.Core.Bool.{Bool, true, false, cond}
 use lib.Dec.{ltb}
 use mathlib.Core.List.{List}
 use native.Mathlib.Omega.{arith}
 use Rattle.cuts.specs.First.{firstFrom}
 use Rattle.cuts.specs.Network.{Network, Tree}
-use Rattle.cuts.specs.Candidate.{Candidate, Rank, fewerNodes, candidate, ahead, sideOf, weightOf}
 use Rattle.cuts.specs.Cut.{size}
+use Rattle.cuts.specs.Candidate.{Candidate, Rank, fewerNodes, candidate, ahead, sideOf, weightOf}
 use Rattle.cuts.proofs.Least.{Order}
 use Rattle.cuts.proofs.ThenLaws.{then-left, by-number-in}
 use Rattle.cuts.proofs.Demands.{ahead-weighing}
+use Rattle.trees.specs.Order.{entry}
 use Rattle.places.specs.Kept.{LinksAt}
-use Rattle.choice.specs.Choice.{earlier, comesFirst, Says, Prior, treeCandidates}
+use Rattle.choice.specs.Choice.{earlier, comesFirst, chosen, Says, shown, Prior, treeCandidates}
 use Rattle.choice.specs.Rows.{handleAt, Reached}
 use Rattle.choice.specs.declared.Found.{Found}
 use Rattle.choice.proofs.OrderLaws.{first-alone}
 use Rattle.choice.proofs.PrecedesLaws.{comesFirst-order}
-use Rattle.choice.proofs.FoundLaws.{says-kept}
+use Rattle.choice.proofs.FoundLaws.{says-order, says-taken, says-kept}
 use Rattle.choice.proofs.TreeLaws.{tree-first}
 use Rattle.choice.proofs.RowLaws.{rows-start, row-start, pair-step, rows-end}
 
 -- a heavier one does not come first
-pub heavier-later : (rank : Rank) (c d : Candidate) → c .weight < d .weight → comesFirst (ahead rank) d c ≡ false
+heavier-later : (rank : Rank) (c d : Candidate) → c .weight < d .weight → comesFirst (ahead rank) d c ≡ false
 unfolding comesFirst ahead
 heavier-later rank c d l =
     comesFirst-order (ahead-weighing rank .order) .one-way c d
@@ -39,24 +40,37 @@ module _ {before : Candidate → Candidate → Bool} (o : Order before) {net : N
   pub reached-start : (u v : ℕ) → net .nodes ≤ u → Says found c → Reached before c net i t links u v found
   reached-start u v n s = record { so-far = c; says = s; first = rows-start u v n (first-alone (comesFirst-order o) c) }
 
-  pub reached-step : (u v w n : ℕ) → 0 < u → u ≤ v → v < net .nodes → w ≡ weightOf net t (handleAt links u v) → n ≡ size net (sideOf net t (handleAt links u v))
-      → Reached before c net i t links u v found → {next : Found}
-      → ((x d : Candidate) → Says found x → d .tree ≡ i → d .handle ≡ handleAt links u v → d .weight ≡ w → d .count ≡ n → Says next (cond (comesFirst before d x) d x))
+  pub reached-step : (u v : ℕ) → 0 < u → u ≤ v → v < net .nodes → Reached before c net i t links u v found → {next : Found}
+      → ((x : Candidate) → Says found x → let d = candidate net i t (handleAt links u v) in Says next (cond (comesFirst before d x) d x))
       → Reached before c net i t links u (v + 1) next
-  unfolding candidate
-  reached-step u v w n z l b e m r h = record {
-    so-far = _;
-    says = h (r .so-far) (candidate net i t (handleAt links u v)) (r .says) refl refl (sym e) (sym m);
-    first = pair-step (comesFirst-order o) u v z l b (r .first);
-  }
+  reached-step u v z l b r h = record { so-far = _; says = h (r .so-far) (r .says); first = pair-step (comesFirst-order o) u v z l b (r .first) }
 
   pub reached-end : LinksAt net t links → (u v : ℕ) → u ≤ 1 → net .nodes ≤ v → Prior before net i t c → Reached before c net i t links u v found
       → Says found (firstFrom before c (treeCandidates net i t))
   reached-end a u v l n p r = subst (Says found) (tree-first before net i t o c p (rows-end a u v l n (r .first))) (r .says)
 
--- one that is heavier than what is found need not be tried
-pub reached-heavier : {net : Network} {i : ℕ} {t : Tree} {links : List ℕ} {c : Candidate} {found : Found} → (u v : ℕ) → 0 < u → u ≤ v → v < net .nodes
-    → found .weight < weightOf net t (handleAt links u v) → Reached (ahead fewerNodes) c net i t links u v found → Reached (ahead fewerNodes) c net i t links u (v + 1) found
-reached-heavier u v z l b h r =
-    reached-step (ahead-weighing fewerNodes .order) u v _ _ z l b refl refl r
-    (λ x d s p q w n. says-kept x d (heavier-later fewerNodes x d (omega (arith, s .weight))) s)
+-- what is made of the links at two places says their candidate
+pub says-pair : (net : Network) {i : ℕ} (t : Tree) (links : List ℕ) {tried : Found} (u v : ℕ) {w n : ℕ}
+    → (tried .tree ≡ i) × (tried .first ≡ min (entry links u) (entry links v)) × (tried .second ≡ max (entry links u) (entry links v)) × (tried .weight ≡ w) × (tried .count ≡ n)
+    → w ≡ weightOf net t (handleAt links u v) → n ≡ size net (sideOf net t (handleAt links u v)) → Says tried (candidate net i t (handleAt links u v))
+unfolding candidate
+says-pair net t links u v e w n = record { tree = e .0; handle = ap₂ chosen (e .1) (e .2); weight = e .3 ∙ w; count = e .4 ∙ n }
+
+-- ---- by fewer nodes
+
+module _ {net : Network} {i : ℕ} {t : Tree} {links : List ℕ} {c : Candidate} {found : Found} (u v : ℕ) (z : 0 < u) (l : u ≤ v) (b : v < net .nodes)
+    (r : Reached (ahead fewerNodes) c net i t links u v found) where
+  -- one that is heavier than what is found need not be tried
+  pub reached-heavier : found .weight < weightOf net t (handleAt links u v) → Reached (ahead fewerNodes) c net i t links u (v + 1) found
+  unfolding candidate
+  reached-heavier h =
+      reached-step (ahead-weighing fewerNodes .order) u v z l b r
+      (λ x s. says-kept x (candidate net i t (handleAt links u v)) (heavier-later fewerNodes x (candidate net i t (handleAt links u v)) (omega (arith, s .weight))) s)
+
+  -- one that was tried, and came first or did not
+  module _ {tried : Found} (says : Says tried (candidate net i t (handleAt links u v))) where
+    pub reached-taken : comesFirst (ahead fewerNodes) (shown tried) (shown found) ≡ true → Reached (ahead fewerNodes) c net i t links u (v + 1) tried
+    reached-taken e = reached-step (ahead-weighing fewerNodes .order) u v z l b r (λ x s. says-taken x _ (sym (says-order says s) ∙ e) says)
+
+    pub reached-kept : comesFirst (ahead fewerNodes) (shown tried) (shown found) ≡ false → Reached (ahead fewerNodes) c net i t links u (v + 1) found
+    reached-kept e = reached-step (ahead-weighing fewerNodes .order) u v z l b r (λ x s. says-kept x _ (sym (says-order says s) ∙ e) s)

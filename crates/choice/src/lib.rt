@@ -26,7 +26,7 @@ fn rank(first: u16, second: u16) -> u32
 }
 
 // Whether `a` comes before `b`.
-fn comes_first(a: Found, b: Found) -> bool
+pub fn comes_first(a: Found, b: Found) -> bool
     ensures { λ r. ⌜ r ≡ comesFirst (ahead fewerNodes) (shown a) (shown b) ⌝ }
 {
     if a.weight != b.weight {
@@ -45,7 +45,7 @@ fn comes_first(a: Found, b: Found) -> bool
 }
 
 // The one of two candidates that comes first; of even ones the one found before.
-fn choose(before: Found, tried: Found) -> Found
+pub fn choose(before: Found, tried: Found) -> Found
     ensures { λ r. ⌜ ((c d : Candidate) → Says before c → Says tried d → Says r (cond (comesFirst (ahead fewerNodes) d c) d c)) ⌝ }
 {
     if comes_first(tried, before) {
@@ -54,8 +54,8 @@ fn choose(before: Found, tried: Found) -> Found
     before
 }
 
-// The candidate of two links of a tree in either order, or of one link given twice.
-fn pair_of(tree: u8, a: u16, b: u16, weight: u64, count: u16) -> Found
+// The candidate of two links of a tree in either order, or of one link given twice, with its weight and the number of nodes in its side.
+pub fn pair_of(tree: u8, a: u16, b: u16, weight: u64, count: u16) -> Found
     ensures { λ r. ⌜ (r .tree ≡ tree) × (r .first ≡ min a b) × (r .second ≡ max a b) × (r .weight ≡ weight) × (r .count ≡ count) ⌝ }
 {
     if a < b {
@@ -74,13 +74,4 @@ fn pair_of(tree: u8, a: u16, b: u16, weight: u64, count: u16) -> Found
         weight: weight,
         count: count,
     }
-}
-
-// The one that comes first of what was found before and two links of a tree in either order, or one link given twice, with their weight and
-// the number of nodes in their side.
-pub fn try_pair(before: Found, tree: u8, a: u16, b: u16, weight: u64, count: u16) -> Found
-    ensures { λ r. ⌜ ((c d : Candidate) → Says before c → d .tree ≡ tree → d .handle ≡ chosen (min a b) (max a b) → d .weight ≡ weight → d .count ≡ count
-        → Says r (cond (comesFirst (ahead fewerNodes) d c) d c)) ⌝ }
-{
-    choose(before, pair_of(tree, a, b, weight, count))
 }

@@ -2,7 +2,9 @@
 pub mod index; // the links at each node
 
 use choice::Found;
-use choice::try_pair;
+use choice::choose;
+use choice::comes_first;
+use choice::pair_of;
 use places::Places;
 use rows::gather;
 use rows::make_row;
@@ -50,13 +52,16 @@ fn search_row(
 {
     let link = links[u];
     let below = single_count(stops, u);
-    let mut best = try_pair(before, tree, link, link, figures[513 + u], below);
+    let mut best = choose(before, pair_of(tree, link, link, figures[513 + u], below));
     let mut v = u + 1;
     while v < nodes {
         let weight = pair_weight(figures, stops, u, v);
         if weight <= best.weight {
             let count = pair_count(stops, u, v);
-            best = try_pair(best, tree, link, links[v], weight, count);
+            let tried = pair_of(tree, link, links[v], weight, count);
+            if comes_first(tried, best) {
+                best = tried;
+            }
         }
         v += 1;
     }

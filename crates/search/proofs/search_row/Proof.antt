@@ -13,7 +13,7 @@ use Rattle.rows.specs.Rows.{Row}
 use Rattle.rows.proofs.PartLaws.{singlesIn-at}
 use Rattle.choice.specs.Rows.{Reached}
 use Rattle.cuts.proofs.Demands.{ahead-weighing}
-use Rattle.choice.proofs.ReachedLaws.{reached-row, reached-step, reached-heavier}
+use Rattle.choice.proofs.ReachedLaws.{says-pair, reached-row, reached-step, reached-heavier, reached-taken, reached-kept}
 use Rattle.choice.proofs.LinkLaws.{handle-one}
 use Rattle.search.proofs.PairLaws.{pair-at}
 use Rattle.search.proofs.search_row.Statement.{statement}
@@ -29,8 +29,8 @@ abbrev μ-loop : tie.MeasureT-loop
 μ-loop figures stops links nodes tree u link below best₀ v₀ best v = nodes - v
 
 -- where the function begins, from where the link alone was tried
-abbrev start : tie.After-try-pair Inv-loop μ-loop → tie.Start Inv-loop μ-loop
-start c = c .before .before .before .before .before .before .before
+abbrev start : tie.After-choose Inv-loop μ-loop → tie.Start Inv-loop μ-loop
+start c = c .before .before .before .before .before .before .before .before
 
 mul-link : tie.Need-mul-link Inv-loop μ-loop
 mul-link c = omega arith
@@ -43,17 +43,20 @@ single-count-requires c κs =
     let s = c .before .before .before .before in
     (s .pre .1, s .pre .2, omega arith)
 
-add-try-pair : tie.Need-add-try-pair Inv-loop μ-loop
-add-try-pair c = omega arith
+add-pair-of : tie.Need-add-pair-of Inv-loop μ-loop
+add-pair-of c = omega arith
 
-mul-try-pair : tie.Need-mul-try-pair Inv-loop μ-loop
-mul-try-pair c = omega arith
+mul-pair-of : tie.Need-mul-pair-of Inv-loop μ-loop
+mul-pair-of c = omega arith
 
-shared-slice-read-try-pair : tie.Need-shared-slice-read-try-pair Inv-loop μ-loop
-shared-slice-read-try-pair c = omega arith
+shared-slice-read-pair-of : tie.Need-shared-slice-read-pair-of Inv-loop μ-loop
+shared-slice-read-pair-of c = omega arith
 
-try-pair-requires : tie.Need-try-pair-requires Inv-loop μ-loop
-try-pair-requires c κs = tt
+pair-of-requires : tie.Need-pair-of-requires Inv-loop μ-loop
+pair-of-requires c κs = tt
+
+choose-requires : tie.Need-choose-requires Inv-loop μ-loop
+choose-requires c κs = tt
 
 add-v : tie.Need-add-v Inv-loop μ-loop
 add-v c = omega arith
@@ -66,20 +69,23 @@ pair-weight-requires c κs =
     let s = start (c .before .before) in
     (s .pre .0, s .pre .1, s .pre .2, c .before .loop .inv .0, omega arith)
 
-mul-try-pair-2 : tie.Need-mul-try-pair-2 Inv-loop μ-loop
-mul-try-pair-2 c = omega arith
-
-shared-slice-read-try-pair-2 : tie.Need-shared-slice-read-try-pair-2 Inv-loop μ-loop
-shared-slice-read-try-pair-2 c = omega arith
-
 pair-count-requires : tie.Need-pair-count-requires Inv-loop μ-loop
 pair-count-requires c κs =
     let l = c .before .before .before .before in
     let s = start (l .before) in
     (s .pre .1, s .pre .2, l .loop .inv .0, omega arith)
 
-try-pair-requires-2 : tie.Need-try-pair-requires-2 Inv-loop μ-loop
-try-pair-requires-2 c κs = tt
+mul-pair-of-2 : tie.Need-mul-pair-of-2 Inv-loop μ-loop
+mul-pair-of-2 c = omega arith
+
+shared-slice-read-pair-of-2 : tie.Need-shared-slice-read-pair-of-2 Inv-loop μ-loop
+shared-slice-read-pair-of-2 c = omega arith
+
+pair-of-requires-2 : tie.Need-pair-of-requires-2 Inv-loop μ-loop
+pair-of-requires-2 c κs = tt
+
+comes-first-requires : tie.Need-comes-first-requires Inv-loop μ-loop
+comes-first-requires c κs = tt
 
 add-v-2 : tie.Need-add-v-2 Inv-loop μ-loop
 add-v-2 c = omega arith
@@ -92,19 +98,22 @@ loop-again c =
     let b = c .before .before .before .before in
     let l = b .loop in
     let s = start (b .before) in
-    let u = s .args .u in (
+    let u = s .args .u in
+    let ls = s .args .links .now in (
       omega arith,
       omega arith,
       λ net t x place node i n k w r.
           let q : l .v < net .nodes = omega arith in
           let z : 0 < u = s .pre .5 in
-          let weight = c .before .before .pair-weight .ensures net t place node (s .args .links .now) i k w z q ∙ ap (weightOf net t) (pair-at (k .links-at) u (l .v) z (l .inv .0) q) in
+          let weight = c .before .before .pair-weight .ensures net t place node ls i k w z q ∙ ap (weightOf net t) (pair-at (k .links-at) u (l .v) z (l .inv .0) q) in
           let reached = l .inv .2 net t x place node i n k w r in
           ⊎-elim
-          (λ m. rw (m .4)
-          (reached-step (ahead-weighing fewerNodes .order) u (l .v) _ _ z (omega arith) q weight
-          (m .1 .ensures net t place node (s .args .links .now) k z q) reached (m .3 .ensures)))
-          (λ m. rw (m .1) (reached-heavier u (l .v) z (omega arith) q (rw (← weight) (m .0 .left)) reached))
+          (λ m. rw (m .6) (reached-taken u (l .v) z (omega arith) q reached
+          (says-pair net t ls u (l .v) (m .3 .ensures) weight (m .1 .ensures net t place node ls k z q)) (sym (m .4 .ensures) ∙ m .5 .taken)))
+          (⊎-elim
+          (λ m. rw (m .6) (reached-kept u (l .v) z (omega arith) q reached
+          (says-pair net t ls u (l .v) (m .3 .ensures) weight (m .1 .ensures net t place node ls k z q)) (sym (m .4 .ensures) ∙ m .5 .left)))
+          (λ m. rw (m .1) (reached-heavier u (l .v) z (omega arith) q reached (rw (← weight) (m .0 .left)))))
           (c .if1 .came),
     )
 
@@ -115,15 +124,16 @@ returns c =
     let f = c .before .before in
     let s = start f in
     let u = s .args .u in
+    let ls = s .args .links .now in
     let z : 0 < u = s .pre .5 in
     let d : u < net .nodes = omega (arith, s .pre .6) in
     let all : l .v ≡ s .args .nodes = let b = l .inv .1 in let d = c .loop-test .left in omega arith in
-    subst (λ (v : ℕ). Reached (ahead fewerNodes) x net (s .args .tree) t (s .args .links .now) u v (l .best)) all
+    let weight = sym (singlesIn-at (s .args .figures .now) u (omega arith)) ∙ w .alone u (omega arith) d ∙ ap (weightOf net t) (sym (handle-one ls u)) in
+    let alone = says-pair net t ls u u (f .before .pair-of .ensures) weight (f .before .before .before .single-count .ensures net t place node ls k z d) in
+    subst (λ (v : ℕ). Reached (ahead fewerNodes) x net (s .args .tree) t ls u v (l .best)) all
     (l .inv .2 net t x place node i n k w
-    (reached-step (ahead-weighing fewerNodes .order) u u _ _ z (omega arith) d
-    (sym (singlesIn-at (s .args .figures .now) u (omega arith)) ∙ w .alone u (omega arith) d ∙ ap (weightOf net t) (sym (handle-one (s .args .links .now) u)))
-    (f .before .before .single-count .ensures net t place node (s .args .links .now) k z d)
-    (reached-row u (s .args .nodes) (omega arith) r) (f .try-pair .ensures)))
+    (reached-step (ahead-weighing fewerNodes .order) u u z (omega arith) d (reached-row u (s .args .nodes) (omega arith) r)
+    (λ y said. f .choose .ensures y _ said alone)))
 
 pub search-row-spec : {M : Type 1} → statement M
 search-row-spec =
@@ -134,17 +144,19 @@ search-row-spec =
     mul-link
     shared-slice-read-link
     single-count-requires
-    add-try-pair
-    mul-try-pair
-    shared-slice-read-try-pair
-    try-pair-requires
+    add-pair-of
+    mul-pair-of
+    shared-slice-read-pair-of
+    pair-of-requires
+    choose-requires
     add-v
     loop-holds
     pair-weight-requires
     pair-count-requires
-    mul-try-pair-2
-    shared-slice-read-try-pair-2
-    try-pair-requires-2
+    mul-pair-of-2
+    shared-slice-read-pair-of-2
+    pair-of-requires-2
+    comes-first-requires
     add-v-2
     loop-less
     loop-again
