@@ -1,6 +1,6 @@
 -- A search by rows on its way: what is found says the first of what was found before the tree and of the candidates tried so far.
 -- Assumes nothing.
-use Prim.Native.Nat.{ℕ, _+_, _≤_, _<_, min, max}
+use Prim.Native.Nat.{ℕ, zero, suc, _+_, _-_, _≤_, _<_, min, max}
 use mathlib.Core.Path.{_≡_, sym, ap₂, _∙_, subst}
 use mathlib.Core.Logic.{inl}
 use mathlib.Core.Bool.{Bool, true, false, cond}
@@ -74,3 +74,18 @@ module _ {net : Network} {i : ℕ} {t : Tree} {links : List ℕ} {c : Candidate}
 
     pub reached-kept : comesFirst (ahead fewerNodes) (shown tried) (shown found) ≡ false → Reached (ahead fewerNodes) c net i t links u (v + 1) found
     reached-kept e = reached-step (ahead-weighing fewerNodes .order) u v z l b r (λ x s. says-kept x _ (sym (says-order says s) ∙ e) s)
+
+-- nor need a run of such be
+module _ {net : Network} {i : ℕ} {t : Tree} {links : List ℕ} {c : Candidate} {found : Found} (u from : ℕ) (z : 0 < u) (l : u ≤ from)
+    (r : Reached (ahead fewerNodes) c net i t links u from found) where
+  so-many : (n : ℕ) → from + n ≤ net .nodes → ((v : ℕ) → from ≤ v → v < from + n → found .weight < weightOf net t (handleAt links u v))
+      → Reached (ahead fewerNodes) c net i t links u (from + n) found
+  so-many zero b h = subst (λ (v : ℕ). Reached (ahead fewerNodes) c net i t links u v found) (omega arith) r
+  so-many (suc n) b h =
+      subst (λ (v : ℕ). Reached (ahead fewerNodes) c net i t links u v found) (omega arith)
+      (reached-heavier u (from + n) z (omega arith) (omega arith) (so-many n (omega arith) (λ v a d. h v a (omega arith))) (h (from + n) (omega arith) (omega arith)))
+
+  pub reached-run : (to : ℕ) → from ≤ to → to ≤ net .nodes → ((v : ℕ) → from ≤ v → v < to → found .weight < weightOf net t (handleAt links u v))
+      → Reached (ahead fewerNodes) c net i t links u to found
+  reached-run to a b h =
+      subst (λ (v : ℕ). Reached (ahead fewerNodes) c net i t links u v found) (omega arith) (so-many (to - from) (omega arith) (λ v p q. h v p (omega arith)))

@@ -17,7 +17,7 @@ ghost use Prim.Native.Nat.{ℕ, _+_, _≤_, _<_};
 ghost use lib.ListN.{length};
 ghost use Rattle.cuts.specs.First.{firstFrom};
 ghost use Rattle.cuts.specs.Network.{Network, Tree};
-ghost use Rattle.cuts.specs.Candidate.{Candidate, fewerNodes, ahead};
+ghost use Rattle.cuts.specs.Candidate.{Candidate, fewerNodes, ahead, weightOf};
 ghost use Rattle.cuts.specs.Limits.{Light};
 ghost use Rattle.trees.specs.Order.{entry, part};
 ghost use Rattle.trees.specs.Growing.{Within};
@@ -25,7 +25,7 @@ ghost use Rattle.growth.specs.ByNode.{starts, listed};
 ghost use Rattle.places.specs.Kept.{Kept};
 ghost use Rattle.rows.specs.Rows.{AllByNode, Indexed, Degrees, Weighted, degreesIn, Row};
 ghost use Rattle.choice.specs.Choice.{Says, Prior, treeCandidates};
-ghost use Rattle.choice.specs.Rows.{Reached};
+ghost use Rattle.choice.specs.Rows.{handleAt, Reached};
 
 // The degree of the node at each place, in its part of `figures`.
 fn weigh_places(figures: &mut [u64], node: &[u8], degrees: &[u64])
@@ -35,7 +35,33 @@ fn weigh_places(figures: &mut [u64], node: &[u8], degrees: &[u64])
     gather(&mut figures[257..513], node, degrees);
 }
 
-// The first of what was found before and the candidates of row `u`: the link at place `u` alone, then with each one behind it.
+// The first place from `from` on whose link, with that at `u`, weighs no more than `limit`; `nodes` where there is none.
+fn next_light(
+    figures: &[u64],
+    stops: &[u16],
+    nodes: usize,
+    u: usize,
+    from: usize,
+    limit: u64,
+) -> usize
+    requires { ⌜ (length (now figures) ≡ 1025) × (length (now stops) ≡ 256) × Within (now stops) 256 257 × (nodes ≤ 256) × (u < from) × (from ≤ nodes) ⌝ }
+    ensures { λ r. ⌜ (from ≤ r) × (r ≤ nodes) ⌝ }
+    ensures { λ r. ⌜ ((net : Network) (t : Tree) (place node links : List ℕ) → Light net → net .nodes ≡ nodes → Kept net t place node (now (stops .entry)) links
+        → Row net t place (now (stops .entry)) links u (now (figures .entry)) → 0 < u
+        → ((v : ℕ) → from ≤ v → v < r → limit < weightOf net t (handleAt links u v)) × (r < nodes → weightOf net t (handleAt links u r) ≤ limit)) ⌝ }
+{
+    let mut v = from;
+    while v < nodes {
+        if pair_weight(figures, stops, u, v) <= limit {
+            return v;
+        }
+        v += 1;
+    }
+    nodes
+}
+
+// The first of what was found before and the candidates of row `u`: the link at place `u` alone, then with each one behind it that weighs no
+// more than what was found.
 fn search_row(
     figures: &[u64],
     stops: &[u16],
@@ -53,17 +79,15 @@ fn search_row(
     let link = links[u];
     let below = single_count(stops, u);
     let mut best = choose(before, pair_of(tree, link, link, figures[513 + u], below));
-    let mut v = u + 1;
+    let mut v = next_light(figures, stops, nodes, u, u + 1, best.weight);
     while v < nodes {
         let weight = pair_weight(figures, stops, u, v);
-        if weight <= best.weight {
-            let count = pair_count(stops, u, v);
-            let tried = pair_of(tree, link, links[v], weight, count);
-            if comes_first(tried, best) {
-                best = tried;
-            }
+        let count = pair_count(stops, u, v);
+        let tried = pair_of(tree, link, links[v], weight, count);
+        if comes_first(tried, best) {
+            best = tried;
         }
-        v += 1;
+        v = next_light(figures, stops, nodes, u, v + 1, best.weight);
     }
     best
 }
