@@ -16,7 +16,7 @@ pub struct Found {
 }
 
 // What decides between two candidates that are even in weight, nodes, tree and first link: 0 for one link, for two one more than the second.
-fn rank(first: u16, second: u16) -> u32
+fn rest_of(first: u16, second: u16) -> u32
     ensures { λ r. ⌜ r ≡ rest (chosen first second) ⌝ }
 {
     if first == second {
@@ -41,7 +41,7 @@ pub fn comes_first(a: Found, b: Found) -> bool
     if a.first != b.first {
         return a.first < b.first;
     }
-    rank(a.first, a.second) < rank(b.first, b.second)
+    rest_of(a.first, a.second) < rest_of(b.first, b.second)
 }
 
 // The one of two candidates that comes first; of even ones the one found before.

@@ -33,17 +33,17 @@ returns-3 c = let s = third (c .before .before .before) .args in by-tree (s .a) 
 returns-4 : tie.Need-returns-4
 returns-4 c = let s = fourth (c .before .before .before) .args in by-first (s .a) (s .b) (omega arith) (omega arith) (omega arith) (λ e. omega arith)
 
-rank-requires : tie.Need-rank-requires
-rank-requires c κs = search needs
+rest-of-requires : tie.Need-rest-of-requires
+rest-of-requires c κs = search needs
 
-rank-requires-2 : tie.Need-rank-requires-2
-rank-requires-2 c κs = search needs
+rest-of-requires-2 : tie.Need-rest-of-requires-2
+rest-of-requires-2 c κs = search needs
 
 returns-5 : tie.Need-returns-5
 returns-5 c =
     let s = fourth (c .before .before .before) .args in
-    ap₂ ltb (c .before .rank .ensures) (c .rank2 .ensures) ∙ by-rest (s .a) (s .b) (omega arith) (omega arith) (omega arith) (omega arith)
+    ap₂ ltb (c .before .rest-of .ensures) (c .rest-of2 .ensures) ∙ by-rest (s .a) (s .b) (omega arith) (omega arith) (omega arith) (omega arith)
 
 pub comes-first-spec : {M : Type 1} → statement M
 comes-first-spec =
-    tie.close (tie.spec returns returns-2 returns-3 returns-4 rank-requires rank-requires-2 returns-5)
+    tie.close (tie.spec returns returns-2 returns-3 returns-4 rest-of-requires rest-of-requires-2 returns-5)

@@ -2,9 +2,16 @@
 -- apart have different places, so that neither the difference nor the sum wraps.
 -- Assumes nothing.
 use borrow.Author.Needs.{needs}
-use Prim.Native.Nat.{_<_}
+use Prim.Native.Nat.{ℕ, _+_, _<_}
+use mathlib.Core.Path.{_≡_}
+use mathlib.Core.List.{List}
 use native.Mathlib.Omega.{arith}
+use Rattle.cuts.specs.Network.{Network, Tree}
+use Rattle.cuts.specs.Cut.{size}
+use Rattle.cuts.specs.Candidate.{sideOf}
 use Rattle.trees.specs.Order.{entry}
+use Rattle.places.specs.Kept.{Kept}
+use Rattle.choice.specs.Rows.{handleAt}
 use Rattle.sides.proofs.CountLaws.{single-count, pair-nested, pair-apart}
 use Rattle.sides.proofs.counts.pair_count.Statement.{statement}
 use Rattle.sides.proofs.counts.pair_count.Tie as tie
@@ -34,38 +41,38 @@ cast-if1 c = omega (arith, stop-small c)
 wrapping-sub-u16-requires : tie.Need-wrapping-sub-u16-requires
 wrapping-sub-u16-requires c κs = search needs
 
+-- how many nodes the links at the two places have below them, each: as many as places up to its stop, which are no more than 256
+known : (c : tie.After-shared-slice-known2) → let a = start c .args in (net : Network) (t : Tree) (place node links : List ℕ) → Kept net t place node (a .stops .now) links
+    → 0 < a .u → a .v < net .nodes → let count : ℕ → ℕ = λ p. size net (sideOf net t (handleAt links p p)) in
+    (c .before .before .single-count .result ≡ count (a .u)) × (count (a .u) + a .u ≡ entry (a .stops .now) (a .u)) × (entry (a .stops .now) (a .u) < 257)
+    × (c .before .single-count2 .result ≡ count (a .v)) × (count (a .v) + a .v ≡ entry (a .stops .now) (a .v)) × (entry (a .stops .now) (a .v) < 257)
+known c net t place node links k z b =
+    let s = start c in
+    let l = s .pre .2 in (
+      c .before .before .single-count .ensures net t place node links k z (omega arith),
+      single-count k (s .args .u) z (omega arith),
+      stop-small c,
+      c .before .single-count2 .ensures net t place node links k (omega arith) b,
+      single-count k (s .args .v) (omega arith) b,
+      s .pre .1 (s .args .v) (s .pre .3),
+    )
+
 returns : tie.Need-returns
 returns c net t place node links k z b =
-    let r = c .before .before in
-    let s = start r in
-    let u = s .args .u in
-    let v = s .args .v in
-    let l = s .pre .2 in
-    let m = s .pre .1 v (s .pre .3) in
-    let of-u = r .before .before .single-count .ensures net t place node links k z (omega arith) in
-    let of-v = r .before .single-count2 .ensures net t place node links k (omega arith) b in
-    let all = single-count k u z (omega arith) in
-    let inner = single-count k v (omega arith) b in
-    let nested = pair-nested k u v z l b (c .before .if1 .taken) in
-    omega (arith, c .wrapping-sub-u16 .ensures, stop-small r)
+    let s = start (c .before .before) in
+    let n = known (c .before .before) net t place node links k z b in
+    let nested = pair-nested k (s .args .u) (s .args .v) z (s .pre .2) b (c .before .if1 .taken) in
+    omega (arith, c .wrapping-sub-u16 .ensures, n .0, n .1, n .2, n .3)
 
 wrapping-add-u16-requires : tie.Need-wrapping-add-u16-requires
 wrapping-add-u16-requires c κs = search needs
 
 returns-2 : tie.Need-returns-2
 returns-2 c net t place node links k z b =
-    let r = c .before .before in
-    let s = start r in
-    let u = s .args .u in
-    let v = s .args .v in
-    let l = s .pre .2 in
-    let m = s .pre .1 v (s .pre .3) in
-    let of-u = r .before .before .single-count .ensures net t place node links k z (omega arith) in
-    let of-v = r .before .single-count2 .ensures net t place node links k (omega arith) b in
-    let one = single-count k u z (omega arith) in
-    let other = single-count k v (omega arith) b in
-    let apart = pair-apart k u v z l b (c .before .if1 .left) in
-    omega (arith, c .wrapping-add-u16 .ensures, stop-small r)
+    let s = start (c .before .before) in
+    let n = known (c .before .before) net t place node links k z b in
+    let apart = pair-apart k (s .args .u) (s .args .v) z (s .pre .2) b (c .before .if1 .left) in
+    omega (arith, c .wrapping-add-u16 .ensures, n .0, n .1, n .3, n .4, n .5)
 
 pub pair-count-spec : {M : Type 1} → statement M
 pair-count-spec =
