@@ -10,20 +10,22 @@ const SEED: u64 = 1;
 pub struct Kind {
     pub name: &'static str,
     shape: Shape,
-    least_weight: u64,
+    /// The least and the greatest.
+    weights: (u64, u64),
 }
 
 const fn of_shape(name: &'static str, shape: Shape) -> Kind {
-    Kind { name, shape, least_weight: MOST_WEIGHT / 2 }
+    Kind { name, shape, weights: (MOST_WEIGHT / 2, MOST_WEIGHT) }
 }
 
-/// By the shape of the trees, and random trees where all weights are equal.
-pub const KINDS: [Kind; 5] = [
+/// By the shape of the trees, and random trees where all weights are equal, or where all are 0, so that all candidates weigh the same.
+pub const KINDS: [Kind; 6] = [
     of_shape("random", Shape::Random),
     of_shape("path", Shape::Path),
     of_shape("caterpillar", Shape::Caterpillar),
     of_shape("star", Shape::Star),
-    Kind { name: "equal", shape: Shape::Random, least_weight: MOST_WEIGHT },
+    Kind { name: "equal", shape: Shape::Random, weights: (MOST_WEIGHT, MOST_WEIGHT) },
+    Kind { name: "weight 0", shape: Shape::Random, weights: (0, 0) },
 ];
 
 pub fn sheet(size: Size, kind: &Kind) -> Vec<u8> {
@@ -32,7 +34,7 @@ pub fn sheet(size: Size, kind: &Kind) -> Vec<u8> {
         root_on_top: true,
         different: MOST_TREES,
         further: Further::Anywhere,
-        weights: (kind.least_weight, MOST_WEIGHT),
+        weights: kind.weights,
     };
     let mut random = Random::new(SEED);
     let network = shapes::network(&mut random, size, &form);
