@@ -3,7 +3,7 @@
  * listed spanning tree, and whether it is provably the lightest cut of the whole network. docs/ENTRY.md has the layouts and the cost.
  *
  * Link with libmonitor.a, which is for x86-64 and its System V calling convention; it needs memset and memcpy. The entry keeps no state,
- * allocates nothing, and takes 44,944 bytes of stack.
+ * allocates nothing, and takes 45,056 bytes of stack.
  */
 #ifndef WCUT_H
 #define WCUT_H
