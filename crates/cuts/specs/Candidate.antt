@@ -1,4 +1,4 @@
--- The cuts that cross one or two links of a tree, and their order (document 01, "What is reckoned"). Assumes nothing.
+-- The cuts that cross one or two links of a tree, and their order (document 01, "What is reckoned"; document 02, F-6). Assumes nothing.
 --   Handle                     one tree link, or two with the lower number first: the links that a candidate cut crosses
 --   Fits net t h               h names members of the tree t, two in their order
 --   names h k                  link k is one of those that h names

@@ -215,7 +215,7 @@ const NOT_JOINED: &str = "the links of tree 0 do not join every node to node 0";
 
 /// The networks of `examples/` and their reports, by name. The lettered ones are document 01's, with the answers of request F-6. In the
 /// works network halls B to E, with links of 100, 100 and 50 to the rest, are the only nodes that hang by less than 300.
-const EXAMPLES: [(&str, &str); 22] = [
+const EXAMPLES: [(&str, &str); 23] = [
     ("a-triangle.net", "answer 2 5 5 0 0 - 1\nside 1\n"),
     ("b-triangle-low-share.net", "answer 1 5 3 0 0 - 1\nside 1\n"),
     ("c-ring.net", "answer 2 2 2 0 0 1 1\nside 1\n"),
@@ -236,6 +236,7 @@ const EXAMPLES: [(&str, &str); 22] = [
     ("refused-06-no-tree.net", "refused 6\n"),
     ("refused-14-ring.net", "refused 14\n"),
     ("refused-15-parallel.net", "refused 15\n"),
+    ("small-hall.net", "answer 2 20 20 0 3 - 2\nside 4 5\n"),
     ("trenches.net", "answer 2 9 9 0 0 1 1\nside 1\n"),
     ("works.net", "answer 2 250 250 0 3 7 18\nside 3 4 5 6 18 19 20 21 22 23 24 25 26 27 28 29 30 31\n"),
 ];
