@@ -222,14 +222,9 @@ pub const LISTED: Rules = Rules { counting: Counting::LongestRun, order: Order::
 /// The rules in force.
 pub const CURRENT: Rules = Rules { counting: Counting::LongestRun, order: Order::FewerNodes };
 
-/// The answer of a sound network by those rules.
-pub fn answer_by(rules: Rules, network: &Network) -> Answer {
-    Firsts::of(network).answer(rules, network)
-}
-
 /// The answer of a sound network by the rules in force.
 pub fn answer(network: &Network) -> Answer {
-    answer_by(CURRENT, network)
+    Firsts::of(network).answer(CURRENT, network)
 }
 
 #[cfg(test)]

@@ -31,7 +31,7 @@ module _ {A : Type 0} (before next : A → A → Bool) where
   unfolding thenBy
   then-right x y p q = or-right (before x y) (not (before y x) && next x y) (rw (p, q))
 
-  pub then-of : (x y : A) → thenBy before next x y ≡ true → (before x y ≡ true) ⊎ ((before y x ≡ false) × (next x y ≡ true))
+  then-of : (x y : A) → thenBy before next x y ≡ true → (before x y ≡ true) ⊎ ((before y x ≡ false) × (next x y ≡ true))
   unfolding thenBy
   then-of x y h = step (before y x) refl (either (before x y) (not (before y x) && next x y) h)
     where

@@ -89,7 +89,7 @@ lines-plain sheet whole = ap (output current) (plain-same sheet whole)
 -- ---- F-6
 
 -- two answers with one verdict, weight and floor, of which the first cut has no more nodes
-pub record Reranked (lines older : Text) : Type 0 where
+pub record Reordered (lines older : Text) : Type 0 where
   pub answered : Answer
   pub before : Answer
   pub lines-are : lines ≡ answerLines answered
@@ -100,7 +100,7 @@ pub record Reranked (lines older : Text) : Type 0 where
   pub count-no-more : answered .best .count ≤ before .best .count
 
 -- every accepted sheet prints such lines, and every other the same
-pub lines-ranked : (sheet : Bytes) (net : Network) (rest : Bytes) → decode current sheet ≡ accepted net rest → Reranked (prints current sheet) (prints trunked sheet)
+pub lines-ranked : (sheet : Bytes) (net : Network) (rest : Bytes) → decode current sheet ≡ accepted net rest → Reordered (prints current sheet) (prints trunked sheet)
 unfolding answer judged
 lines-ranked sheet net rest e =
     let v = decode-accepted current sheet net rest e .sound in
