@@ -1,14 +1,14 @@
 // The entry that firmware calls: from a sheet to the side area and the report area.
-use answers::write_answer;
-use areas::REPORT_LENGTH;
-use areas::SIDE_LENGTH;
-use reader::Outcome;
-use reader::read_sheet;
-use records::refusals;
+use format::refusals;
+use op_report::write_answer;
+use read_sheet::Outcome;
+use read_sheet::read_sheet;
+use write_areas::REPORT_LENGTH;
+use write_areas::SIDE_LENGTH;
 ghost use mathlib.Core.Path.{_≡_};
 ghost use Prim.Native.Nat.{_≤_};
 ghost use lib.ListN.{length};
-ghost use Rattle.trees.specs.Growing.{EndArrays};
+ghost use Rattle.arrays.specs.Growing.{EndArrays};
 ghost use Rattle.sheet.specs.Reading.{numberOf};
 ghost use Rattle.sheet.specs.Sheet.{current, decode};
 ghost use Rattle.sheet.specs.Areas.{reportLength};

@@ -1,6 +1,6 @@
 // The packing bound: which trees count, the load that they put on each link, and the floor and the verdict that follow.
-use records::bytes::four;
-use records::maps::bit_set;
+use format::maps::bit_set;
+use format::numbers::four;
 ghost use mathlib.Core.Path.{_≡_};
 ghost use mathlib.Core.Bool.{not};
 ghost use Prim.Native.Nat.{_*_, _≤_, min};
@@ -9,9 +9,9 @@ ghost use Rattle.cuts.specs.Sums.{only, anyTo};
 ghost use Rattle.cuts.specs.Network.{Network};
 ghost use Rattle.cuts.specs.Bound.{counted, floor};
 ghost use Rattle.cuts.specs.Answer.{verdictOf};
-ghost use Rattle.trees.specs.Growing.{Weighed};
+ghost use Rattle.arrays.specs.Growing.{Weighed};
 ghost use Rattle.sheet.specs.Sheet.{current};
-ghost use Rattle.reader.specs.Answers.{treesFrom};
+ghost use Rattle.read_sheet.specs.SheetRead.{treesFrom};
 ghost use Rattle.packing.specs.Loads.{Records, Loading, overfull, Roomy, ShareAdded, mostShares, Counted};
 
 // Whether a tree's share would load one of its members past the link's weight.

@@ -1,8 +1,8 @@
 // The report program: reads a sheet from standard input and prints its answer or its refusal.
 use libc::STDIN_FILENO;
 use libc::STDOUT_FILENO;
-use lines::MOST_OUTPUT;
-use lines::report_lines;
+use print_report::MOST_OUTPUT;
+use print_report::report_lines;
 
 // Bytes of the input behind these are not read.
 const MOST_INPUT: usize = 32768;

@@ -7,8 +7,8 @@ use borrow.Author.Needs.{needs}
 use Rattle.sheet.specs.Reading.{numberOf}
 use Rattle.sheet.specs.Sheet.{current, decode}
 use Rattle.sheet.proofs.Acceptance.{decode-accepted}
-use Rattle.reader.specs.Answers.{sheetSays, TreesLast}
-use Rattle.reader.specs.declared.Outcome.{Outcome}
+use Rattle.read_sheet.specs.SheetRead.{sheetSays, TreesLast}
+use Rattle.read_sheet.specs.declared.Outcome.{Outcome}
 use Rattle.monitor.specs.Entry.{sideLeft, reportLeft}
 use Rattle.monitor.proofs.report_in.Statement.{statement}
 use Rattle.monitor.proofs.report_in.Tie as tie

@@ -8,7 +8,7 @@ use mathlib.Core.Logic.{⊎-elim}
 use native.Mathlib.Omega.{arith}
 use lib.ListN.{length}
 use Rattle.sheet.specs.Sheet.{treeLength}
-use Rattle.reader.proofs.TreeLaws.{mapAt-is, mapAt-length}
+use Rattle.read_sheet.proofs.TreeLaws.{mapAt-is, mapAt-length}
 use Rattle.packing.proofs.ShareLaws.{Loaded, Progress, going, loaded-none, record-within, still-going, sum-small, loads-sized, all-counted, turn-counts, turn-ends}
 use Rattle.packing.proofs.count_trees.Statement.{statement}
 use Rattle.packing.proofs.count_trees.Tie as tie

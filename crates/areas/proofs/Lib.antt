@@ -1,2 +1,0 @@
-pub mod PutLaws
-pub mod SideLaws

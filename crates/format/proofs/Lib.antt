@@ -1,0 +1,2 @@
+pub mod MapLaws
+pub mod PutLaws

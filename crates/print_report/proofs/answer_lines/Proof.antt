@@ -1,0 +1,35 @@
+-- `print_report::answer_lines` meets its contract: the line of the report, and behind it the line of the side. Assumes nothing.
+use native.Mathlib.Omega.{arith}
+use borrow.Author.Needs.{needs}
+use Rattle.sheet.specs.Sheet.{current}
+use Rattle.print_report.proofs.OutputLaws.{answerLines-put}
+use Rattle.print_report.proofs.answer_lines.Statement.{statement}
+use Rattle.print_report.proofs.answer_lines.Tie as tie
+
+read-report-requires : tie.Need-read-report-requires
+read-report-requires c κs = search needs
+
+answer-line-requires : tie.Need-answer-line-requires
+answer-line-requires c κs = omega (arith, c .before .before .before .before .before .pre .0)
+
+side-line-requires : tie.Need-side-line-requires
+side-line-requires c κs =
+    let first = c .before .before .before in
+    let p = first .before .before .before .before .before .before .pre in
+    (omega (arith, p .0, first .answer-line .kept .0, first .answer-line .ensures .1), p .1)
+
+same-length : tie.Need-same-length
+same-length c = search needs
+
+returns : tie.Need-returns
+returns c =
+    let second = c .before .before in
+    let first = second .before .before .before .before in
+    let a = first .before .before .before .before .before .before .args in (
+      answerLines-put current _ (a .side .now) (a .report .now) (first .before .read-report .ensures)
+          (first .answer-line .ensures .0) (second .side-line .ensures .0),
+      omega (arith, first .answer-line .ensures .1, second .side-line .ensures .1),
+    )
+
+pub answer-lines-spec : {M : Type 1} → statement M
+answer-lines-spec = tie.close (tie.spec read-report-requires answer-line-requires side-line-requires same-length returns)

@@ -1,0 +1,3 @@
+pub mod LineLaws
+pub mod OutputLaws
+pub mod Cases

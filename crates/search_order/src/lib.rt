@@ -1,0 +1,77 @@
+// Chooses between candidates in any order of visits: by weight, number of nodes in the side, tree, first link, one link before two, and
+// second link. These decide between any two candidates of a network, so that it does not matter in which order they are visited.
+ghost use mathlib.Core.Path.{_≡_};
+ghost use mathlib.Core.Bool.{cond};
+ghost use Prim.Native.Nat.{min, max};
+ghost use Rattle.cuts.specs.Candidate.{Candidate, fewerNodes, ahead};
+ghost use Rattle.search_order.specs.Choice.{rest, comesFirst, chosen, Says, shown};
+
+// A candidate: the tree, its one or two links, which are equal where there is one, the weight and the number of nodes in the side.
+pub struct Found {
+    pub tree: u8,
+    pub first: u16,
+    pub second: u16,
+    pub weight: u64,
+    pub count: u16,
+}
+
+// What decides between two candidates that are even in weight, nodes, tree and first link: 0 for one link, for two one more than the second.
+fn rest_of(first: u16, second: u16) -> u32
+    ensures { λ r. ⌜ r ≡ rest (chosen first second) ⌝ }
+{
+    if first == second {
+        return 0;
+    }
+    second as u32 + 1
+}
+
+// Whether `a` comes before `b`.
+pub fn comes_first(a: Found, b: Found) -> bool
+    ensures { λ r. ⌜ r ≡ comesFirst (ahead fewerNodes) (shown a) (shown b) ⌝ }
+{
+    if a.weight != b.weight {
+        return a.weight < b.weight;
+    }
+    if a.count != b.count {
+        return a.count < b.count;
+    }
+    if a.tree != b.tree {
+        return a.tree < b.tree;
+    }
+    if a.first != b.first {
+        return a.first < b.first;
+    }
+    rest_of(a.first, a.second) < rest_of(b.first, b.second)
+}
+
+// The one of two candidates that comes first; of even ones the one found before.
+pub fn choose(before: Found, tried: Found) -> Found
+    ensures { λ r. ⌜ ((c d : Candidate) → Says before c → Says tried d → Says r (cond (comesFirst (ahead fewerNodes) d c) d c)) ⌝ }
+{
+    if comes_first(tried, before) {
+        return tried;
+    }
+    before
+}
+
+// The candidate of two links of a tree in either order, or of one link given twice, with its weight and the number of nodes in its side.
+pub fn pair_of(tree: u8, a: u16, b: u16, weight: u64, count: u16) -> Found
+    ensures { λ r. ⌜ (r .tree ≡ tree) × (r .first ≡ min a b) × (r .second ≡ max a b) × (r .weight ≡ weight) × (r .count ≡ count) ⌝ }
+{
+    if a < b {
+        return Found {
+            tree: tree,
+            first: a,
+            second: b,
+            weight: weight,
+            count: count,
+        };
+    }
+    Found {
+        tree: tree,
+        first: b,
+        second: a,
+        weight: weight,
+        count: count,
+    }
+}

@@ -1,0 +1,41 @@
+-- `search_tree::search_tree` meets its contract: the figures begin with the degrees by place. Assumes nothing.
+use native.Mathlib.Omega.{arith}
+use borrow.Author.Needs.{needs}
+use Rattle.tree_rows.proofs.DegreeLaws.{degrees-weighted}
+use Rattle.search_tree.proofs.search_tree.Statement.{statement}
+use Rattle.search_tree.proofs.search_tree.Tie as tie
+
+slice-aggregate-weigh-places : tie.Need-slice-aggregate-weigh-places
+slice-aggregate-weigh-places c = search needs
+
+slice-aggregate-weigh-places-2 : tie.Need-slice-aggregate-weigh-places-2
+slice-aggregate-weigh-places-2 c = search needs
+
+weigh-places-requires : tie.Need-weigh-places-requires
+weigh-places-requires c κs = search needs
+
+slice-aggregate-search-rows : tie.Need-slice-aggregate-search-rows
+slice-aggregate-search-rows c = search needs
+
+search-rows-requires : tie.Need-search-rows-requires
+search-rows-requires c κs = search needs
+
+returns : tie.Need-returns
+returns c =
+    let w = c .before .before .before .before in
+    let s = w .before .before .before .before .before .before .before in
+    λ net t x count e d k p says.
+    let n = e .laid .held .sized in
+    c .before .search-rows .ensures net t x count e k
+    (degrees-weighted k (e .loopless) (s .args .degrees .now) _ d (omega (arith, s .pre .0 .3)) (w .weigh-places .ensures)) p says
+
+pub search-tree-spec : {M : Type 1} → statement M
+search-tree-spec =
+    tie.close
+    (tie.spec
+    slice-aggregate-weigh-places
+    slice-aggregate-weigh-places-2
+    weigh-places-requires
+    slice-aggregate-search-rows
+    search-rows-requires
+    returns)

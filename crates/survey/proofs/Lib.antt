@@ -1,2 +1,0 @@
-pub mod NetworkLaws
-pub mod SurveyLaws

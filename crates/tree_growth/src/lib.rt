@@ -1,0 +1,111 @@
+// Grows a tree from the root, node 0, in time linear in its nodes and members: each node's members are looked at once, when its turn in
+// the order comes. The tree may be any choice of links; the answer says whether they join all nodes.
+// The ends of link k stand in firsts[k] and seconds[k].
+pub mod by_node; // links by node
+
+use by_node::list_by_node;
+ghost use mathlib.Core.Path.{_≡_};
+ghost use mathlib.Core.Bool.{cond};
+ghost use mathlib.Core.List.{List};
+ghost use Prim.Native.Nat.{ℕ, _≤_, _<_};
+ghost use lib.ListN.{length};
+ghost use lib.Dec.{eqb};
+ghost use Rattle.cuts.specs.Network.{Network, Tree};
+ghost use Rattle.cuts.specs.Candidate.{memberLinks};
+ghost use Rattle.arrays.specs.Order.{entry};
+ghost use Rattle.arrays.specs.Growing.{Held, Given, GrownTree};
+ghost use Rattle.tree_growth.specs.ByNode.{Ending, ByNode, starts, listed};
+
+// A tree as it grew: whether its members join all nodes and, if so, its nodes in order, and each node's parent and parent link.
+pub struct Grown {
+    pub joined: bool,
+    pub order: [u8; 256],
+    pub parents: [u8; 256],
+    pub uplinks: [u16; 256],
+}
+
+// The other one of a link's two ends.
+pub fn far_end(first: u8, second: u8, x: u8) -> u8
+    ensures { λ r. ⌜ r ≡ cond (eqb first x) second first ⌝ }
+{
+    if first == x { second } else { first }
+}
+
+// Whether the tree's members, listed by node in `lists`, join every node to the root; if so, `order`, `parents` and `uplinks`, the parent
+// links, order the nodes. The order is a queue: its nodes are taken in turn, and each member of the one taken that leads to a node not
+// reached yet, which its parent link does not, puts that node at the end.
+fn grow_queue(
+    order: &mut [u8],
+    parents: &mut [u8],
+    uplinks: &mut [u16],
+    firsts: &[u8],
+    seconds: &[u8],
+    lists: &[u16],
+    nodes: usize,
+) -> bool
+    requires { ⌜ (length (now order) ≡ 256) × (length (now parents) ≡ 256) × (length (now uplinks) ≡ 256) ⌝ }
+    requires { ⌜ (0 < nodes) × (nodes ≤ 256) × (257 ≤ length (now lists)) ⌝ }
+    requires { ⌜ ((ks : List ℕ) × ByNode (now firsts) (now seconds) ks (starts (now lists)) (listed (now lists)) nodes) ⌝ }
+    ensures { λ r. ⌜ ((net : Network) (t : Tree) → Held net (now (firsts .entry)) (now (seconds .entry)) nodes
+        → ByNode (now (firsts .entry)) (now (seconds .entry)) (memberLinks net t) (starts (now (lists .entry))) (listed (now (lists .entry))) nodes
+        → GrownTree net t (now (order .exit)) (now (parents .exit)) (now (uplinks .exit)) r) ⌝ }
+{
+    let head = &lists[0..257];
+    let list = &lists[257..];
+    let mut reached = [0u8; 256];
+    reached[0] = 1;
+    order[0] = 0;
+    let mut found = 1;
+    let mut i = 0;
+    while found < nodes {
+        if i == found {
+            return false;
+        }
+        let x = order[i];
+        let stop = head[x as usize + 1] as usize;
+        let mut j = head[x as usize] as usize;
+        while j < stop {
+            let k = list[j];
+            let y = far_end(firsts[k as usize], seconds[k as usize], x);
+            if reached[y as usize] != 1 {
+                reached[y as usize] = 1;
+                order[found] = y;
+                parents[y as usize] = x;
+                uplinks[y as usize] = k;
+                found += 1;
+            }
+            j += 1;
+        }
+        i += 1;
+    }
+    true
+}
+
+// Grows a tree from the list of its members, the first `count` numbers of `members`.
+pub fn grow(firsts: &[u8], seconds: &[u8], members: &[u16], count: usize, nodes: usize) -> Grown
+    requires { ⌜ (0 < nodes) × (nodes ≤ 256) × (count ≤ length (now members)) × (count ≤ 256) ⌝ }
+    requires { ⌜ ((i : ℕ) → i < count → Ending (now firsts) (now seconds) nodes (entry (now members) i)) ⌝ }
+    ensures { λ r. ⌜ ((net : Network) (t : Tree) → Given net t (now (firsts .entry)) (now (seconds .entry)) (now (members .entry)) count nodes
+        → GrownTree net t (r .order) (r .parents) (r .uplinks) (r .joined)) ⌝ }
+{
+    let mut lists = [0u16; 769];
+    list_by_node(&mut lists, firsts, seconds, members, count, nodes);
+    let mut order = [0u8; 256];
+    let mut parents = [0u8; 256];
+    let mut uplinks = [0u16; 256];
+    let joined = grow_queue(
+        &mut order,
+        &mut parents,
+        &mut uplinks,
+        firsts,
+        seconds,
+        &lists,
+        nodes,
+    );
+    Grown {
+        joined: joined,
+        order: order,
+        parents: parents,
+        uplinks: uplinks,
+    }
+}

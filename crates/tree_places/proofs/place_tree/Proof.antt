@@ -1,0 +1,50 @@
+-- `tree_places::place_tree` meets its contract: what each pass gives is what the next one asks, and the places by node that come of it are
+-- kept by place.
+-- Assumes nothing.
+use borrow.Author.Needs.{needs}
+use Rattle.tree_places.proofs.KeptLaws.{preorder-kept}
+use Rattle.tree_places.proofs.place_tree.Statement.{statement}
+use Rattle.tree_places.proofs.place_tree.Tie as tie
+
+subtree-sizes-requires : tie.Need-subtree-sizes-requires
+subtree-sizes-requires c κs = search needs
+
+heaviest-children-requires : tie.Need-heaviest-children-requires
+heaviest-children-requires c κs = search needs
+
+place-nodes-requires : tie.Need-place-nodes-requires
+place-nodes-requires c κs = search needs
+
+nodes-by-place-requires : tie.Need-nodes-by-place-requires
+nodes-by-place-requires c κs = search needs
+
+gather-requires : tie.Need-gather-requires
+gather-requires c κs = search needs
+
+gather-requires-2 : tie.Need-gather-requires-2
+gather-requires-2 c κs = search needs
+
+returns : tie.Need-returns
+returns c =
+    let n = c .before .before .nodes-by-place in
+    let b = c .before .before .before .before .before in
+    let s = b .place-nodes in
+    let stops = c .before .gather in
+    let links = c .gather2 in (
+      (n .ensures .0, stops .ensures .1 (s .ensures .0)),
+      λ net t r.
+          let o = s .ensures .1 net t _ r (b .before .before .subtree-sizes .ensures net t _ r) (b .before .heaviest-children .ensures net t _ r) .0 in
+          preorder-kept r o (n .result) (stops .result) (links .result) (n .ensures .1 net t _ _ o (r .counted)) (stops .ensures .0) (links .ensures .0),
+    )
+
+pub place-tree-spec : {M : Type 1} → statement M
+place-tree-spec =
+    tie.close
+    (tie.spec
+    subtree-sizes-requires
+    heaviest-children-requires
+    place-nodes-requires
+    nodes-by-place-requires
+    gather-requires
+    gather-requires-2
+    returns)

@@ -1,0 +1,130 @@
+-- A row of pairs: what the links of a network weigh between the places of a tree's nodes, for the places below one tree link. `places` says
+-- what a place, its stop and its link are, and `growth` how links are listed by node. Assumes nothing.
+--   sumOver from to g              g from + .. + g (to - 1)
+--   weightAt net k                 the weight of link k
+--   firstPlace net pl k            the place of the first end of link k
+--   secondPlace net pl k           the place of its second end
+--   tally net pl from to y         the weight of the links between the places from, .., to - 1 and the place y. A link with both ends
+--                                  among those places counts at each of its ends
+--   degree net pl y                the weight of the links at the place y
+--   crossing net pl from to y      the weight of the links at the place y that cross the places from, .., to - 1: at one of them the
+--                                  degree less the tally, elsewhere the tally
+--   paired e f                     the handle of two links, the lower number first
+--   Loopless net                   no link joins a node to itself
+--   AllByNode fs ss hs ls n        the links 0, .., m - 1, for some m up to 2,048, are listed by node, and the n nodes have their ends
+--   Indexed net es ws ls n m       the arrays hold the network, which has n nodes and m links, is light and loopless, and list its links
+--                                  by node: es has the first ends and the second ends, ws the weights, ls where each node's links begin
+--                                  and behind that the links' numbers
+--   Degrees net ds                 ds has for each node the weight of its links
+--   Weighted net pl ds             ds has for each place its degree
+--   sumsIn figures                 of an array with four parts by place, the first: a row's sums, one more than there are places
+--   degreesIn figures              the second: the degree of each place
+--   singlesIn figures              the third: the weight of the link at each place, alone
+--   talliesIn figures              the fourth: the tally of a row's places at each place
+--   Added net pl p f g             g is f with the tally of the place p alone added at each place, wherever the sum fits 64 bits
+--   Tallied net pl from to f       f has the tally of those places at each place
+--   Summed net pl from to end h    h has, at each place from `from` up to `end`, the sum of what crosses those places from `from` on
+--                                  in front of it
+--   Row net t pl st l u figures    the tallies and sums are those of the places below the link at u, if there is such a place, and the
+--                                  singles have the weight of each link at u and behind, alone
+use Prim.Native.Nat.{ℕ, suc, _+_, _-_, _^_, _≤_, _<_}
+use mathlib.Core.Path.{_≡_}
+use mathlib.Core.Bool.{_||_, cond}
+use mathlib.Core.List.{List}
+use lib.ListN.{take, drop}
+use lib.Dec.{eqb, leb, ltb}
+use Rattle.cuts.specs.Sums.{sumTo, only, table}
+use Rattle.cuts.specs.Network.{Tree, Network, linkAt, linkCount}
+use Rattle.cuts.specs.Candidate.{Handle, one, two, weightOf}
+use Rattle.cuts.specs.Limits.{Light}
+use Rattle.arrays.specs.Order.{entry, part}
+use Rattle.arrays.specs.Growing.{Laid}
+use Rattle.tree_growth.specs.ByNode.{ByNode, starts, listed}
+use Rattle.tree_places.specs.Kept.{within}
+
+-- ---- sums over places
+
+unfoldable pub sumOver : ℕ → ℕ → (ℕ → ℕ) → ℕ
+unfolding sumTo
+sumOver from to g = sumTo to (λ p. only (leb from p) (g p))
+
+-- ---- links between places
+
+abbrev pub weightAt : Network → ℕ → ℕ
+weightAt net k = linkAt net k .weight
+
+abbrev pub firstPlace : Network → List ℕ → ℕ → ℕ
+firstPlace net place k = entry place (linkAt net k .first)
+
+abbrev pub secondPlace : Network → List ℕ → ℕ → ℕ
+secondPlace net place k = entry place (linkAt net k .second)
+
+unfoldable pub tally : Network → List ℕ → ℕ → ℕ → ℕ → ℕ
+unfolding sumTo
+tally net place from to y =
+    sumTo (linkCount net) (λ k. only (within from to (firstPlace net place k)) (only (eqb (secondPlace net place k) y) (weightAt net k))
+    + only (within from to (secondPlace net place k)) (only (eqb (firstPlace net place k) y) (weightAt net k)))
+
+unfoldable pub degree : Network → List ℕ → ℕ → ℕ
+unfolding sumTo
+degree net place y =
+    sumTo (linkCount net) (λ k. only (eqb (firstPlace net place k) y) (weightAt net k) + only (eqb (secondPlace net place k) y) (weightAt net k))
+
+unfoldable pub crossing : Network → List ℕ → ℕ → ℕ → ℕ → ℕ
+unfolding tally degree
+crossing net place from to y =
+    cond (within from to y) (degree net place y - tally net place from to y) (tally net place from to y)
+
+abbrev pub paired : ℕ → ℕ → Handle
+paired e f = cond (ltb e f) (two e f) (two f e)
+
+-- ---- the network
+
+abbrev pub Loopless : Network → Type 0
+Loopless net = (k : ℕ) → k < linkCount net → linkAt net k .first ≡ linkAt net k .second → ⊥
+
+abbrev pub AllByNode : List ℕ → List ℕ → List ℕ → List ℕ → ℕ → Type 0
+AllByNode firsts seconds head list nodes = (m : ℕ) × (m ≤ 2_048) × ByNode firsts seconds (table m (λ k. k)) head list nodes
+
+pub record Indexed (net : Network) (ends : List (List ℕ)) (weights lists : List ℕ) (nodes links : ℕ) : Type 0 where
+  pub laid : Laid net (part ends 0) (part ends 1) weights nodes links
+  pub light : Light net
+  pub loopless : Loopless net
+  pub by-node : ByNode (part ends 0) (part ends 1) (table links (λ k. k)) (starts lists) (listed lists) nodes
+
+abbrev pub Degrees : Network → List ℕ → Type 0
+Degrees net degrees = (x : ℕ) → x < net .nodes
+    → entry degrees x ≡ sumTo (linkCount net) (λ k. only (eqb (linkAt net k .first) x || eqb (linkAt net k .second) x) (weightAt net k))
+
+-- ---- figures by place
+
+pub record Weighted (net : Network) (place degrees : List ℕ) : Type 0 where
+  pub is : (y : ℕ) → y < net .nodes → entry degrees y ≡ degree net place y
+
+abbrev pub sumsIn : List ℕ → List ℕ
+sumsIn figures = take 257 figures
+
+abbrev pub degreesIn : List ℕ → List ℕ
+degreesIn figures = take 256 (drop 257 figures)
+
+abbrev pub singlesIn : List ℕ → List ℕ
+singlesIn figures = take 256 (drop 513 figures)
+
+abbrev pub talliesIn : List ℕ → List ℕ
+talliesIn figures = take 256 (drop 769 figures)
+
+-- ---- a row
+
+pub record Added (net : Network) (place : List ℕ) (p : ℕ) (f g : List ℕ) : Type 0 where
+  pub is : (y : ℕ) → y < net .nodes → entry f y + tally net place p (suc p) y < 2 ^ 64 → entry g y ≡ entry f y + tally net place p (suc p) y
+
+pub record Tallied (net : Network) (place : List ℕ) (from to : ℕ) (f : List ℕ) : Type 0 where
+  pub is : (y : ℕ) → y < net .nodes → entry f y ≡ tally net place from to y
+
+pub record Summed (net : Network) (place : List ℕ) (from to end : ℕ) (h : List ℕ) : Type 0 where
+  pub is : (y : ℕ) → from ≤ y → y ≤ end → entry h y ≡ sumOver from y (crossing net place from to)
+
+pub record Row (net : Network) (t : Tree) (place stops links : List ℕ) (u : ℕ) (figures : List ℕ) : Type 0 where
+  pub tallied : u < net .nodes → Tallied net place u (entry stops u) (talliesIn figures)
+  pub summed : u < net .nodes → Summed net place u (entry stops u) (net .nodes) (sumsIn figures)
+  pub alone : (v : ℕ) → u ≤ v → v < net .nodes → entry (singlesIn figures) v ≡ weightOf net t (one (entry links v))

@@ -1,0 +1,74 @@
+// Writes the side area and the report area.
+use format::numbers::put_eight;
+use format::numbers::put_two;
+ghost use mathlib.Core.Path.{_≡_};
+ghost use mathlib.Core.List.{[], _∷_};
+ghost use Prim.Native.Nat.{_+_, _≤_};
+ghost use lib.ListN.{length};
+ghost use Rattle.cuts.specs.Network.{flag};
+ghost use Rattle.cuts.specs.Cut.{Side};
+ghost use Rattle.arrays.specs.Marks.{marks};
+ghost use Rattle.sheet.specs.Bytes.{byteOf, fieldBytes};
+ghost use Rattle.sheet.specs.Sheet.{current};
+ghost use Rattle.sheet.specs.Areas.{sideBytes, reportWidths, reportLength, written};
+
+// The bytes of a side area that are written.
+pub const SIDE_LENGTH: usize = 32;
+
+// The bytes of a report area that are written.
+pub const REPORT_LENGTH: usize = 24;
+
+// What a report has for the second link of a single one.
+pub const NO_SECOND: u16 = 65535;
+
+// The fields of the report area, in their order.
+pub struct Report {
+    pub verdict: u8,
+    pub tree: u8,
+    pub count: u16,
+    pub first: u16,
+    pub second: u16,
+    pub weight: u64,
+    pub floor: u64,
+}
+
+// The byte of the eight marks at a position. The remainders keep the sum in a byte, whatever stands there.
+fn packed(side: &[u8], at: usize) -> u8
+    requires { ⌜ (length (now side) ≡ 256) × (at + 8 ≤ 256) ⌝ }
+    ensures { λ r. ⌜ ((s : Side) → now (side .entry) ≡ marks s → r ≡ byteOf (λ i. flag s (at + i))) ⌝ }
+{
+    side[at] % 2
+        + 2 * (side[at + 1] % 2)
+        + 4 * (side[at + 2] % 2)
+        + 8 * (side[at + 3] % 2)
+        + 16 * (side[at + 4] % 2)
+        + 32 * (side[at + 5] % 2)
+        + 64 * (side[at + 6] % 2)
+        + 128 * (side[at + 7] % 2)
+}
+
+// Writes a side, given as marks: node k is bit k mod 8 of byte k / 8.
+pub fn write_side(area: &mut [u8], side: &[u8])
+    requires { ⌜ (length (now side) ≡ 256) × (32 ≤ length (now area)) ⌝ }
+    ensures { λ _. ⌜ ((s : Side) → now (side .entry) ≡ marks s → now (area .exit) ≡ written (sideBytes s) (now (area .entry))) ⌝ }
+{
+    let mut j = 0;
+    while j < SIDE_LENGTH {
+        area[j] = packed(side, 8 * j);
+        j += 1;
+    }
+}
+
+// Writes a report.
+pub fn write_report(area: &mut [u8], r: Report)
+    requires { ⌜ reportLength current ≤ length (now area) ⌝ }
+    ensures { λ _. ⌜ now (area .exit) ≡ written (fieldBytes (reportWidths current) (r .verdict ∷ r .tree ∷ r .count ∷ r .first ∷ r .second ∷ r .weight ∷ r .floor ∷ [])) (now (area .entry)) ⌝ }
+{
+    area[0] = r.verdict;
+    area[1] = r.tree;
+    put_two(area, 2, r.count);
+    put_two(area, 4, r.first);
+    put_two(area, 6, r.second);
+    put_eight(area, 8, r.weight);
+    put_eight(area, 16, r.floor);
+}
