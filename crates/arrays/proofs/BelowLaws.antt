@@ -13,7 +13,8 @@ use Rattle.cuts.specs.Tree.{below, Member, Spanning}
 use Rattle.cuts.proofs.FlagLaws.{one-table, eqb-comm}
 use Rattle.cuts.proofs.Joined.{crosses-meets}
 use Rattle.cuts.proofs.Spanning.{below-crosses, below-rootless}
-use Rattle.arrays.specs.Order.{entry, Ordered}
+use Rattle.arrays.specs.Lists.{entry}
+use Rattle.arrays.specs.Order.{Ordered}
 use Rattle.arrays.proofs.OrderLaws.{Spot, spot, parent-in, climb, link-once}
 
 xor-back : (a b : Bool) → a ≡ xor (xor a b) b

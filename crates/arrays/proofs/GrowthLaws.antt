@@ -17,8 +17,8 @@ use Rattle.cuts.specs.Tree.{Member, joined, spans}
 use Rattle.cuts.proofs.FlagLaws.{clash, truth, eqb-comm}
 use Rattle.cuts.proofs.SumLaws.{all-suc, allTo-at, sum-congr, sum-const, sum-single, count-more, count-lacks}
 use Rattle.cuts.proofs.Joined.{turned, meets-in, joined-within}
-use Rattle.arrays.specs.Order.{entry, Hung, Tied, Listed, Ordered}
-use Rattle.arrays.specs.Growing.{marked}
+use Rattle.arrays.specs.Lists.{entry, marked}
+use Rattle.arrays.specs.Order.{Hung, Tied, Listed, Ordered}
 
 -- the order while it is made: the nodes marked in `reached` are those of the first `count` positions
 pub record Growing (net : Network) (t : Tree) (reached order parents uplinks : List ℕ) (count : ℕ) : Type 0 where

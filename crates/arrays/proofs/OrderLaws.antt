@@ -18,7 +18,8 @@ use Rattle.cuts.specs.Paths.{Meets, forth, back}
 use Rattle.cuts.proofs.FlagLaws.{clash, truth}
 use Rattle.cuts.proofs.SumLaws.{allTo-all, sum-congr, sum-add, sum-const, sum-swap, sum-tight, sum-single, count-last, count-unique, One, count-one}
 use Rattle.cuts.proofs.Joined.{joined-root, joined-lead}
-use Rattle.arrays.specs.Order.{entry, Hung, Ordered, Lower, Owned}
+use Rattle.arrays.specs.Lists.{entry}
+use Rattle.arrays.specs.Order.{Hung, Ordered, Lower, Owned}
 
 -- the place in the order of a node other than the root, and of its parent
 pub record Spot (net : Network) (t : Tree) (order parents uplinks : List ℕ) (x : ℕ) : Type 0 where

@@ -1,3 +1,8 @@
+pub mod Lists
+pub mod Links
+pub mod ByNode
 pub mod Order
-pub mod Growing
+pub mod Grown
+pub mod Kept
 pub mod Marks
+pub mod Records

@@ -1,7 +1,5 @@
 -- A tree's nodes in an order that starts at the root and has each node behind its parent. The order is a list of nodes; parents and
 -- parent links, `uplinks`, are lists with a number for each node. Assumes nothing.
---   entry l i                     number i of a list, 0 past its end
---   part ls k                     list k of a list of lists, none past its end
 --   Hung net t k x p              node x hangs by the member k on node p
 --   Tied net t o p l i            the node at position i of the order o hangs by its link, in l, on its parent, in p, which stands
 --                                 before it
@@ -11,17 +9,11 @@
 --   Owned net t l                 every member is the parent link of exactly one node
 use Prim.Native.Nat.{ℕ, _<_}
 use mathlib.Core.Path.{_≡_}
-use mathlib.Core.List.{List, []}
-use lib.ListN.{getD}
+use mathlib.Core.List.{List}
 use Rattle.cuts.specs.Network.{Tree, Network}
 use Rattle.cuts.specs.Tree.{Member}
 use Rattle.cuts.specs.Paths.{Meets}
-
-abbrev pub entry : List ℕ → ℕ → ℕ
-entry l i = getD l i 0
-
-abbrev pub part : List (List ℕ) → ℕ → List ℕ
-part ls k = getD ls k []
+use Rattle.arrays.specs.Lists.{entry}
 
 pub record Hung (net : Network) (t : Tree) (k x p : ℕ) : Type 0 where
   pub member : Member net t k

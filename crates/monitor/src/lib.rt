@@ -8,7 +8,7 @@ use write_areas::SIDE_LENGTH;
 ghost use mathlib.Core.Path.{_≡_};
 ghost use Prim.Native.Nat.{_≤_};
 ghost use lib.ListN.{length};
-ghost use Rattle.arrays.specs.Growing.{EndArrays};
+ghost use Rattle.arrays.specs.Links.{EndArrays};
 ghost use Rattle.sheet.specs.Reading.{numberOf};
 ghost use Rattle.sheet.specs.Sheet.{current, decode};
 ghost use Rattle.sheet.specs.Areas.{reportLength};

@@ -7,7 +7,7 @@ use Rattle.cuts.specs.Bound.{counted, floor}
 use Rattle.cuts.specs.Answer.{Rules, reported, answer, verdictOf}
 use Rattle.sheet.specs.Bytes.{Bytes}
 use Rattle.sheet.specs.Sheet.{Counts, treeIn}
-use Rattle.read_sheet.specs.SheetRead.{treesFrom, networkAt}
+use Rattle.arrays.specs.Records.{treesFrom, networkAt}
 use Rattle.search_order.specs.Choice.{Says}
 use Rattle.search_order.specs.declared.Found.{Found}
 

@@ -13,13 +13,13 @@ ghost use mathlib.Core.Path.{_≡_};
 ghost use Prim.Native.Nat.{_+_, _*_, _≤_};
 ghost use lib.ListN.{length};
 ghost use Rattle.cuts.specs.Answer.{Answer, verdictOf};
-ghost use Rattle.arrays.specs.Growing.{EndArrays};
+ghost use Rattle.arrays.specs.Links.{EndArrays};
 ghost use Rattle.arrays.specs.Marks.{marks};
 ghost use Rattle.search_order.specs.Choice.{Says, chosen};
 ghost use Rattle.sheet.specs.Sheet.{current, treeLength, Accepted};
 ghost use Rattle.sheet.specs.Areas.{secondLink, sideBytes, reportLength, reportBytes, written, sideAfter, reportAfter};
 ghost use Rattle.read_header.specs.HeaderRead.{countsOf};
-ghost use Rattle.read_sheet.specs.SheetRead.{networkAt};
+ghost use Rattle.arrays.specs.Records.{networkAt};
 
 // The second link as the report has it.
 fn second_link(first: u16, second: u16) -> u16

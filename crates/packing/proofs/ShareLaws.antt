@@ -21,11 +21,11 @@ use Rattle.cuts.proofs.FlagLaws.{clash, truth}
 use Rattle.cuts.proofs.SumLaws.{all-suc, only-none, anyTo-some, anyTo-at, table-at, table-length, take-table}
 use Rattle.cuts.proofs.LoadLaws.{load-append, shares-append}
 use Rattle.cuts.proofs.CountedLaws.{counted-run}
-use Rattle.arrays.specs.Order.{entry}
-use Rattle.arrays.specs.Growing.{Weighed}
+use Rattle.arrays.specs.Lists.{entry}
+use Rattle.arrays.specs.Links.{Weighed}
 use Rattle.sheet.specs.Bytes.{Bytes, number, mapBit}
 use Rattle.sheet.specs.Sheet.{mapLength, treeLength, treeIn}
-use Rattle.read_sheet.specs.SheetRead.{treesFrom}
+use Rattle.arrays.specs.Records.{treesFrom}
 use Rattle.read_sheet.proofs.TreeLaws.{members-at, treesFrom-more, record-inside}
 use Rattle.packing.specs.Loads.{overfull, ShareAdded, mostShares, Totals, Counted}
 

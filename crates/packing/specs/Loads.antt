@@ -17,11 +17,11 @@ use lib.Dec.{ltb}
 use Rattle.cuts.specs.Sums.{only}
 use Rattle.cuts.specs.Network.{Tree, Network}
 use Rattle.cuts.specs.Bound.{load, shares, counted}
-use Rattle.arrays.specs.Order.{entry}
-use Rattle.arrays.specs.Growing.{Weighed}
+use Rattle.arrays.specs.Lists.{entry}
+use Rattle.arrays.specs.Links.{Weighed}
 use Rattle.sheet.specs.Bytes.{Bytes, mapBit}
 use Rattle.sheet.specs.Sheet.{current, treeLength}
-use Rattle.read_sheet.specs.SheetRead.{treesFrom}
+use Rattle.arrays.specs.Records.{treesFrom}
 
 pub record Records (s : Bytes) (at links trees : ℕ) (ws : List ℕ) : Type 0 where
   pub inside : at + trees * treeLength links ≤ length s

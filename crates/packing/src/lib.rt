@@ -9,9 +9,9 @@ ghost use Rattle.cuts.specs.Sums.{only, anyTo};
 ghost use Rattle.cuts.specs.Network.{Network};
 ghost use Rattle.cuts.specs.Bound.{counted, floor};
 ghost use Rattle.cuts.specs.Answer.{verdictOf};
-ghost use Rattle.arrays.specs.Growing.{Weighed};
+ghost use Rattle.arrays.specs.Links.{Weighed};
 ghost use Rattle.sheet.specs.Sheet.{current};
-ghost use Rattle.read_sheet.specs.SheetRead.{treesFrom};
+ghost use Rattle.arrays.specs.Records.{treesFrom};
 ghost use Rattle.packing.specs.Loads.{Records, Loading, overfull, Roomy, ShareAdded, mostShares, Counted};
 
 // Whether a tree's share would load one of its members past the link's weight.

@@ -11,12 +11,12 @@ use lib.Dec.{eqb}
 use Rattle.cuts.specs.Sums.{table}
 use Rattle.cuts.specs.Network.{Link, noLink}
 use Rattle.cuts.proofs.SumLaws.{table-length, table-congr, table-at}
-use Rattle.arrays.specs.Order.{part}
-use Rattle.arrays.specs.Growing.{EndArrays}
+use Rattle.arrays.specs.Lists.{part}
+use Rattle.arrays.specs.Links.{EndArrays, linksOf}
 use Rattle.sheet.specs.Bytes.{Bytes}
 use Rattle.sheet.specs.Reading.{accepted, refused, records}
 use Rattle.sheet.specs.Sheet.{Format, linkRecord, nextLink}
-use Rattle.read_links.specs.LinksRead.{linkOf, linksOf}
+use Rattle.read_links.specs.LinksRead.{linkOf}
 use Rattle.read_links.specs.declared.Link as link
 use Rattle.sheet.proofs.Acceptance.{GoodLink, good-link}
 use Rattle.sheet.proofs.ReadingLaws.{Run, run-more, run-stop, run-done}

@@ -6,14 +6,12 @@
 --   linkSays s r          what r says where it answers to reading a link from s
 --   LinkInside s r        the position behind the link lies in s
 --   LinksThere f s p k    k link records stand from position p of s on, and all are read in the format f
---   linksOf m fs ss ws    the m links whose first ends, second ends and weights stand in the arrays
 use Prim.Native.Nat.{ℕ, _^_, _≤_}
 use mathlib.Core.Path.{_≡_}
 use mathlib.Core.Bool.{cond}
 use mathlib.Core.List.{List, []}
-use lib.ListN.{length, getD, drop}
+use lib.ListN.{length, drop}
 use lib.Dec.{leb}
-use Rattle.cuts.specs.Sums.{table}
 use Rattle.cuts.specs.Network.{Link}
 use Rattle.sheet.specs.Bytes.{Bytes}
 use Rattle.sheet.specs.Reading.{Reading, accepted, refused, records}
@@ -47,7 +45,3 @@ pub record LinksThere (f : Format) (s : Bytes) (from count : ℕ) : Type 0 where
   pub links : List Link
   pub rest : Bytes
   pub are-read : records (nextLink f nodes) count [] (drop from s) ≡ accepted links rest
-
-unfoldable pub linksOf : ℕ → List ℕ → List ℕ → List ℕ → List Link
-unfolding table
-linksOf m fs ss ws = table m (λ k. record { first = getD fs k 0; second = getD ss k 0; weight = getD ws k 0 })

@@ -13,12 +13,12 @@ ghost use Prim.Native.Nat.{_+_, _*_, _≤_};
 ghost use lib.Dec.{eqb};
 ghost use lib.ListN.{length, drop};
 ghost use Rattle.sheet.specs.Bytes.{number};
-ghost use Rattle.arrays.specs.Order.{part};
-ghost use Rattle.arrays.specs.Growing.{EndArrays};
+ghost use Rattle.arrays.specs.Lists.{part};
+ghost use Rattle.arrays.specs.Links.{EndArrays, linksOf};
 ghost use Rattle.sheet.specs.Reading.{firstFailing, records};
 ghost use Rattle.sheet.specs.Sheet.{current, recordLength, linkIn, shapeChecks, valueChecks, linkRecord, nextLink};
 ghost use Rattle.format.specs.Steps.{stepNumber, stepSays, EndsAt, Inside};
-ghost use Rattle.read_links.specs.LinksRead.{fieldsSay, fieldsOf, linkOf, linkSays, LinkInside, linksOf};
+ghost use Rattle.read_links.specs.LinksRead.{fieldsSay, fieldsOf, linkOf, linkSays, LinkInside};
 
 // The three lowest bits of link 0's map byte: both ends and the weight are there.
 const ENDS_AND_WEIGHT: u8 = 7;

@@ -8,11 +8,10 @@ use lib.Seq.{drop-length}
 use lib.Dec.{ltb}
 use borrow.Author.Tests.{lt-ltb, ltb-false}
 use Rattle.cuts.specs.Network.{Link, Tree, noLink}
-use Rattle.arrays.specs.Growing.{Held}
+use Rattle.arrays.specs.Links.{Held, linksOf}
 use Rattle.sheet.specs.Bytes.{Bytes}
 use Rattle.sheet.specs.Reading.{Check, check, firstFailing, accepted, refused, records}
 use Rattle.sheet.specs.Sheet.{Format, Counts, countsIn, countChecks, headerRecord, nextLink, treeRecord, network, decodeBody, decode}
-use Rattle.read_links.specs.LinksRead.{linksOf}
 use Rattle.sheet.proofs.ReadingLaws.{passed, unless-accepted, records-all}
 use Rattle.sheet.proofs.Acceptance.{GoodLink, good-link}
 use Rattle.read_links.proofs.LinksLaws.{linksOf-length, linksOf-at}

@@ -18,11 +18,11 @@ use Rattle.cuts.specs.Candidate.{memberLinks}
 use Rattle.cuts.proofs.SumLaws.{anyTo-congr, sum-congr, table-congr, table-at}
 use Rattle.cuts.proofs.ListLaws.{at-mem}
 use Rattle.cuts.proofs.Handles.{select-congr, select-of}
-use Rattle.arrays.specs.Growing.{Within}
+use Rattle.arrays.specs.Lists.{Within}
 use Rattle.sheet.specs.Bytes.{Bytes, mapBit}
 use Rattle.sheet.specs.Reading.{check, firstFailing, accepted, refused, unless, records}
 use Rattle.sheet.specs.Sheet.{mapLength, treeLength, treeIn, mapChecks, treeChecks, treeRecord}
-use Rattle.read_sheet.specs.SheetRead.{treesFrom}
+use Rattle.arrays.specs.Records.{treesFrom}
 use Rattle.sheet.proofs.Acceptance.{ones-below}
 use Rattle.sheet.proofs.ReadingLaws.{lacks, passed, unless-append, unless-refused, Run, run-start, run-more, run-done}
 

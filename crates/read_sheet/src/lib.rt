@@ -12,7 +12,7 @@ use read_links::read_links;
 ghost use mathlib.Core.Path.{_≡_};
 ghost use Prim.Native.Nat.{_≤_, _<_};
 ghost use lib.ListN.{length, drop};
-ghost use Rattle.arrays.specs.Growing.{EndArrays};
+ghost use Rattle.arrays.specs.Links.{EndArrays};
 ghost use Rattle.sheet.specs.Sheet.{current, decodeBody, decode};
 ghost use Rattle.read_header.specs.HeaderRead.{countsOf};
 ghost use Rattle.read_sheet.specs.SheetRead.{sheetSays, TreesLast};

@@ -12,14 +12,14 @@ ghost use Prim.Native.Nat.{ℕ, _+_, _-_, _*_, _≤_, _<_};
 ghost use lib.ListN.{length, drop};
 ghost use Rattle.cuts.specs.Sums.{countTo, table};
 ghost use Rattle.cuts.specs.Network.{Network, Tree, linkCount};
-ghost use Rattle.arrays.specs.Order.{part};
-ghost use Rattle.arrays.specs.Growing.{Held, GrownTree};
-ghost use Rattle.tree_growth.specs.ByNode.{Ending};
+ghost use Rattle.arrays.specs.Lists.{part};
+ghost use Rattle.arrays.specs.Links.{Held, Ending};
+ghost use Rattle.arrays.specs.Grown.{GrownTree};
 ghost use Rattle.sheet.specs.Bytes.{mapBit};
 ghost use Rattle.sheet.specs.Reading.{firstFailing, records};
 ghost use Rattle.sheet.specs.Sheet.{mapLength, treeLength, treeIn, mapChecks, treeRecord};
 ghost use Rattle.format.specs.Steps.{stepSays, EndsAt};
-ghost use Rattle.read_sheet.specs.SheetRead.{treesFrom};
+ghost use Rattle.arrays.specs.Records.{treesFrom};
 
 // The refusal number of a map's bits, 0 where they are not refused.
 fn map_refusal(map: &[u8], nodes: usize, links: usize) -> u32

@@ -11,8 +11,8 @@ use borrow.Author.Tests.{eqb-false}
 use Rattle.cuts.specs.Network.{Network, Tree}
 use Rattle.cuts.specs.Tree.{Member}
 use Rattle.cuts.specs.Candidate.{Handle, one, two, Fits}
-use Rattle.arrays.specs.Order.{entry}
-use Rattle.tree_places.specs.Kept.{LinksAt}
+use Rattle.arrays.specs.Lists.{entry}
+use Rattle.arrays.specs.Kept.{LinksAt}
 use Rattle.search_order.specs.Choice.{chosen}
 use Rattle.search_order.specs.Visits.{handleAt}
 use Rattle.search_order.proofs.HandleLaws.{three-ways, chosen-one, chosen-two, sorted}

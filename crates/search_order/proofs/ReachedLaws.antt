@@ -14,8 +14,8 @@ use Rattle.cuts.specs.Candidate.{Candidate, Rank, fewerNodes, candidate, ahead,
 use Rattle.cuts.proofs.Least.{Order}
 use Rattle.cuts.proofs.ThenLaws.{then-left, by-number-in}
 use Rattle.cuts.proofs.Demands.{ahead-weighing}
-use Rattle.arrays.specs.Order.{entry}
-use Rattle.tree_places.specs.Kept.{LinksAt}
+use Rattle.arrays.specs.Lists.{entry}
+use Rattle.arrays.specs.Kept.{LinksAt}
 use Rattle.search_order.specs.Choice.{earlier, comesFirst, chosen, Says, shown, Prior, treeCandidates}
 use Rattle.search_order.specs.Visits.{handleAt, Reached}
 use Rattle.search_order.specs.declared.Found.{Found}

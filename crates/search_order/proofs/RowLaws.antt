@@ -11,7 +11,7 @@ use Rattle.cuts.specs.Network.{Network, Tree}
 use Rattle.cuts.specs.Candidate.{Handle, Candidate, candidate, handles, memberLinks}
 use Rattle.cuts.proofs.Least.{Order}
 use Rattle.cuts.proofs.Handles.{handle-in, handle-of}
-use Rattle.tree_places.specs.Kept.{LinksAt}
+use Rattle.arrays.specs.Kept.{LinksAt}
 use Rattle.search_order.specs.Choice.{FirstOf, treeCandidates}
 use Rattle.search_order.specs.Visits.{handleAt, passed, Tried, Seen}
 use Rattle.search_order.proofs.OrderLaws.{first-same, first-step}

@@ -12,7 +12,7 @@ use mathlib.Core.Bool.{Bool}
 use mathlib.Core.List.{List}
 use Rattle.cuts.specs.Network.{Network, Tree}
 use Rattle.cuts.specs.Candidate.{Handle, Candidate, candidate}
-use Rattle.arrays.specs.Order.{entry}
+use Rattle.arrays.specs.Lists.{entry}
 use Rattle.search_order.specs.Choice.{FirstOf, comesFirst, chosen, Says}
 use Rattle.search_order.specs.declared.Found.{Found}
 

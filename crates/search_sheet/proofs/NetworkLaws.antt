@@ -10,16 +10,14 @@ use Rattle.cuts.specs.Sums.{countTo}
 use Rattle.cuts.specs.Network.{Link, Tree, noTree, linkAt, linkCount, treeAt}
 use Rattle.cuts.specs.Tree.{Spanning, Sound}
 use Rattle.cuts.proofs.SumLaws.{table-length, table-at}
-use Rattle.arrays.specs.Order.{entry, part}
-use Rattle.arrays.specs.Growing.{EndArrays, Laid}
-use Rattle.tree_growth.specs.ByNode.{Ending}
+use Rattle.arrays.specs.Lists.{entry, part}
+use Rattle.arrays.specs.Links.{EndArrays, Laid, linksOf, Ending}
 use Rattle.tree_growth.proofs.RunLaws.{held-ending}
 use Rattle.sheet.specs.Bytes.{Bytes, mapBit}
 use Rattle.sheet.specs.Sheet.{Format, Counts, treeLength, treeIn, network, Accepted}
 use Rattle.sheet.proofs.Acceptance.{members-counted}
-use Rattle.read_links.specs.LinksRead.{linksOf}
 use Rattle.read_links.proofs.LinksLaws.{linksOf-length, linksOf-at}
-use Rattle.read_sheet.specs.SheetRead.{treesFrom, networkAt}
+use Rattle.arrays.specs.Records.{treesFrom, networkAt}
 
 -- which trees are listed does not matter to what a record says
 treeIn-any : (nodes : ℕ) (links : List Link) (ts us : List Tree) (bs : Bytes) → treeIn (network nodes links ts) bs ≡ treeIn (network nodes links us) bs

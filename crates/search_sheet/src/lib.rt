@@ -17,17 +17,16 @@ ghost use Rattle.cuts.specs.Network.{Network, Tree, linkCount, treeAt};
 ghost use Rattle.cuts.specs.Tree.{Spanning};
 ghost use Rattle.cuts.specs.Candidate.{Candidate, Fits, fewerNodes, ahead, sideOf};
 ghost use Rattle.cuts.specs.Answer.{reported};
-ghost use Rattle.arrays.specs.Order.{part};
-ghost use Rattle.arrays.specs.Growing.{Within, EndArrays, Held};
+ghost use Rattle.arrays.specs.Lists.{part, Within};
+ghost use Rattle.arrays.specs.Links.{EndArrays, Held, Ending};
 ghost use Rattle.arrays.specs.Marks.{marks};
-ghost use Rattle.tree_growth.specs.ByNode.{Ending, starts, listed};
-ghost use Rattle.tree_places.specs.Kept.{Kept};
-ghost use Rattle.tree_rows.specs.Rows.{AllByNode, Indexed, Degrees};
+ghost use Rattle.arrays.specs.ByNode.{starts, listed, AllByNode, Indexed, Degrees};
+ghost use Rattle.arrays.specs.Kept.{Kept};
 ghost use Rattle.search_order.specs.Choice.{Says, Prior, chosen, treeCandidates};
 ghost use Rattle.sheet.specs.Bytes.{mapBit};
 ghost use Rattle.sheet.specs.Sheet.{current, treeLength, treeIn, Accepted};
 ghost use Rattle.read_header.specs.HeaderRead.{countsOf};
-ghost use Rattle.read_sheet.specs.SheetRead.{networkAt};
+ghost use Rattle.arrays.specs.Records.{networkAt};
 
 // A weight above that of every cut.
 const UNFOUND: u64 = 18446744073709551615;

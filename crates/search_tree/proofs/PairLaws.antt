@@ -7,8 +7,8 @@ use mathlib.Core.List.{List}
 use native.Mathlib.Omega.{arith}
 use borrow.Author.Tests.{lt-ltb, le-ltb}
 use Rattle.cuts.specs.Network.{Network, Tree}
-use Rattle.arrays.specs.Order.{entry}
-use Rattle.tree_places.specs.Kept.{LinksAt}
+use Rattle.arrays.specs.Lists.{entry}
+use Rattle.arrays.specs.Kept.{LinksAt}
 use Rattle.tree_rows.specs.Rows.{paired}
 use Rattle.search_order.specs.Choice.{chosen}
 use Rattle.search_order.specs.Visits.{handleAt}

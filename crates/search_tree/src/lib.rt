@@ -19,11 +19,10 @@ ghost use Rattle.cuts.specs.First.{firstFrom};
 ghost use Rattle.cuts.specs.Network.{Network, Tree};
 ghost use Rattle.cuts.specs.Candidate.{Candidate, fewerNodes, ahead, weightOf};
 ghost use Rattle.cuts.specs.Limits.{Light};
-ghost use Rattle.arrays.specs.Order.{entry, part};
-ghost use Rattle.arrays.specs.Growing.{Within};
-ghost use Rattle.tree_growth.specs.ByNode.{starts, listed};
-ghost use Rattle.tree_places.specs.Kept.{Kept};
-ghost use Rattle.tree_rows.specs.Rows.{AllByNode, Indexed, Degrees, Weighted, degreesIn, Row};
+ghost use Rattle.arrays.specs.Lists.{entry, part, Within};
+ghost use Rattle.arrays.specs.ByNode.{starts, listed, AllByNode, Indexed, Degrees};
+ghost use Rattle.arrays.specs.Kept.{Kept};
+ghost use Rattle.tree_rows.specs.Rows.{Weighted, degreesIn, Row};
 ghost use Rattle.search_order.specs.Choice.{Says, Prior, treeCandidates};
 ghost use Rattle.search_order.specs.Visits.{handleAt, Reached};
 

@@ -11,8 +11,9 @@ use lib.Seq.{length-slice, getD-take, getD-drop}
 use lib.Dec.{eqb}
 use Rattle.cuts.proofs.FlagLaws.{clash}
 use Rattle.cuts.proofs.ListLaws.{at-mem, mem-at}
-use Rattle.arrays.specs.Order.{entry}
-use Rattle.tree_growth.specs.ByNode.{touches, far, linksAt, Ending, ByNode}
+use Rattle.arrays.specs.Lists.{entry}
+use Rattle.arrays.specs.ByNode.{touches, far, linksAt, ByNode}
+use Rattle.arrays.specs.Links.{Ending}
 
 module _ (fs ss : List ℕ) (x : ℕ) where
   pub linksAt-of : (ks : List ℕ) {k : ℕ} → List·Memᴰ k (linksAt fs ss x ks) → List·Memᴰ k ks × (touches fs ss x k ≡ true)

@@ -21,11 +21,12 @@ use Rattle.cuts.specs.Paths.{Meets, forth, back}
 use Rattle.cuts.proofs.FlagLaws.{clash, truth, either, agree, or-left, or-right}
 use Rattle.cuts.proofs.SumLaws.{sum-congr, sum-const, count-most, count-more, count-lacks}
 use Rattle.cuts.proofs.Handles.{member-in, member-of}
-use Rattle.arrays.specs.Order.{entry}
-use Rattle.arrays.specs.Growing.{marked, Held, GrownTree}
+use Rattle.arrays.specs.Lists.{entry, marked}
+use Rattle.arrays.specs.Links.{Held}
+use Rattle.arrays.specs.Grown.{GrownTree}
 use Rattle.arrays.proofs.OrderLaws.{ordered-spans, lower-end}
 use Rattle.arrays.proofs.GrowthLaws.{Growing, Quiet, growing-step, growing-stuck, growing-done}
-use Rattle.tree_growth.specs.ByNode.{touches, far, ByNode}
+use Rattle.arrays.specs.ByNode.{touches, far, ByNode}
 use Rattle.tree_growth.proofs.EndsLaws.{linksAt-of, linksAt-in, run-mem, run-place}
 
 -- the far ends of the links at x in the entries from `from` up to, not including, `to` are reached

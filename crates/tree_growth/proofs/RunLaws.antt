@@ -11,9 +11,9 @@ use lib.Seq.{getD-at}
 use Rattle.cuts.specs.Sums.{sumTo, only, table}
 use Rattle.cuts.specs.Network.{Network, linkCount}
 use Rattle.cuts.proofs.SumLaws.{sum-congr}
-use Rattle.arrays.specs.Order.{entry}
-use Rattle.arrays.specs.Growing.{Held}
-use Rattle.tree_growth.specs.ByNode.{touches, linksAt, Ending, ByNode}
+use Rattle.arrays.specs.Lists.{entry}
+use Rattle.arrays.specs.Links.{Held, Ending}
+use Rattle.arrays.specs.ByNode.{touches, linksAt, ByNode}
 use Rattle.tree_growth.proofs.CountLaws.{linksAt-append, linksAt-one}
 use Rattle.tree_growth.proofs.EndsLaws.{run-at, run-length}
 

@@ -12,9 +12,10 @@ ghost use lib.ListN.{length};
 ghost use lib.Dec.{eqb};
 ghost use Rattle.cuts.specs.Network.{Network, Tree};
 ghost use Rattle.cuts.specs.Candidate.{memberLinks};
-ghost use Rattle.arrays.specs.Order.{entry};
-ghost use Rattle.arrays.specs.Growing.{Held, Given, GrownTree};
-ghost use Rattle.tree_growth.specs.ByNode.{Ending, ByNode, starts, listed};
+ghost use Rattle.arrays.specs.Lists.{entry};
+ghost use Rattle.arrays.specs.Links.{Held, Ending};
+ghost use Rattle.arrays.specs.Grown.{Given, GrownTree};
+ghost use Rattle.arrays.specs.ByNode.{ByNode, starts, listed};
 
 // A tree as it grew: whether its members join all nodes and, if so, its nodes in order, and each node's parent and parent link.
 pub struct Grown {

@@ -13,7 +13,8 @@ use borrow.Author.Tests.{eqb-true, eqb-false, ltb-true, ltb-false}
 use Rattle.cuts.specs.Network.{Tree, Network}
 use Rattle.cuts.proofs.FlagLaws.{truth}
 use Rattle.cuts.proofs.SumLaws.{all-suc}
-use Rattle.arrays.specs.Order.{entry, Ordered}
+use Rattle.arrays.specs.Lists.{entry}
+use Rattle.arrays.specs.Order.{Ordered}
 use Rattle.arrays.proofs.OrderLaws.{spot, parent-in, not-root}
 use Rattle.tree_places.specs.Places.{Rooted, Child, Heaviest}
 use Rattle.tree_places.specs.Passes.{heavier, Heavy}

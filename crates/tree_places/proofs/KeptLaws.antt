@@ -11,9 +11,10 @@ use lib.ListN.{length, set}
 use lib.Seq.{getD-set-same, getD-set-other}
 use Rattle.cuts.specs.Network.{Tree, Network}
 use Rattle.cuts.proofs.SumLaws.{all-suc}
-use Rattle.arrays.specs.Order.{entry, Lower}
+use Rattle.arrays.specs.Lists.{entry}
+use Rattle.arrays.specs.Order.{Lower}
 use Rattle.arrays.proofs.OrderLaws.{lower-once, lower-member, lower-end}
-use Rattle.tree_places.specs.Kept.{within, LinksAt, Kept}
+use Rattle.arrays.specs.Kept.{within, LinksAt, Kept}
 use Rattle.tree_places.specs.Places.{Rooted, Preorder, ByPlace, Gathered}
 
 -- ---- one number more

@@ -10,7 +10,8 @@ use native.Mathlib.Omega.{arith}
 use borrow.Author.Tests.{eq-eqb}
 use Rattle.cuts.specs.Network.{Tree, Network}
 use Rattle.cuts.specs.Tree.{Spanning}
-use Rattle.arrays.specs.Order.{entry, Ordered}
+use Rattle.arrays.specs.Lists.{entry}
+use Rattle.arrays.specs.Order.{Ordered}
 use Rattle.arrays.proofs.OrderLaws.{Spot, spot, parent-in}
 use Rattle.tree_places.specs.Places.{Rooted, Child, Sized, Heaviest, Preorder, HeavyFirst}
 use Rattle.tree_places.specs.Passes.{child, shift, Placing}

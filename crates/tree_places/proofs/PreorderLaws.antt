@@ -15,9 +15,10 @@ use Rattle.cuts.specs.Network.{Tree, Network, flag}
 use Rattle.cuts.specs.Tree.{below, Spanning}
 use Rattle.cuts.proofs.FlagLaws.{truth, agree, either, or-right}
 use Rattle.cuts.proofs.SumLaws.{sum-congr, sum-swap, sum-tight, sum-single, count-last, count-unique}
-use Rattle.arrays.specs.Order.{entry, Ordered}
+use Rattle.arrays.specs.Lists.{entry}
+use Rattle.arrays.specs.Order.{Ordered}
 use Rattle.arrays.proofs.OrderLaws.{parent-in, climb}
-use Rattle.tree_places.specs.Kept.{within}
+use Rattle.arrays.specs.Kept.{within}
 use Rattle.tree_places.specs.Places.{under, subtree, Child, Preorder}
 use Rattle.tree_places.proofs.SubtreeLaws.{under-below, under-all, under-root, under-law, under-self, subtree-split, subtree-root}
 

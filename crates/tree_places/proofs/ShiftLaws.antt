@@ -14,7 +14,8 @@ use Rattle.cuts.specs.Network.{Tree, Network}
 use Rattle.cuts.specs.Tree.{Spanning}
 use Rattle.cuts.proofs.FlagLaws.{truth}
 use Rattle.cuts.proofs.SumLaws.{sum-congr, sum-add, sum-zero, sum-prefix, sum-single}
-use Rattle.arrays.specs.Order.{entry, Ordered}
+use Rattle.arrays.specs.Lists.{entry}
+use Rattle.arrays.specs.Order.{Ordered}
 use Rattle.arrays.proofs.OrderLaws.{Spot, spot, parent-in, not-root}
 use Rattle.tree_places.specs.Places.{Rooted, Sized, Heaviest}
 use Rattle.tree_places.specs.Passes.{child, sizeIn, ahead, shift}

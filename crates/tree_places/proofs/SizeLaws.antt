@@ -16,7 +16,8 @@ use Rattle.cuts.specs.Network.{Tree, Network}
 use Rattle.cuts.specs.Tree.{Spanning}
 use Rattle.cuts.proofs.FlagLaws.{truth, agree}
 use Rattle.cuts.proofs.SumLaws.{sum-congr, sum-mono, sum-add, sum-zero, sum-single}
-use Rattle.arrays.specs.Order.{entry, Ordered}
+use Rattle.arrays.specs.Lists.{entry}
+use Rattle.arrays.specs.Order.{Ordered}
 use Rattle.arrays.proofs.OrderLaws.{parent-in, not-root}
 use Rattle.tree_places.specs.Places.{subtree, Rooted, Sized}
 use Rattle.tree_places.specs.Passes.{child, SizedFrom}

@@ -12,8 +12,7 @@ use lib.Seq.{getD-set-same, getD-set-other}
 use lib.Dec.{eqb}
 use borrow.Author.Tests.{eqb-true, eqb-false}
 use Rattle.cuts.proofs.FlagLaws.{truth}
-use Rattle.arrays.specs.Order.{entry}
-use Rattle.arrays.specs.Growing.{Within}
+use Rattle.arrays.specs.Lists.{entry, Within}
 
 pub small : (n : ℕ) → n ≤ 256 → n % 257 ≡ n
 small n b = omega arith

@@ -7,8 +7,8 @@ use native.Mathlib.Decide.{decLt}
 use native.Mathlib.Omega.{arith}
 use Rattle.cuts.specs.Network.{Tree, Network, flag}
 use Rattle.cuts.specs.Tree.{below}
-use Rattle.arrays.specs.Order.{entry}
-use Rattle.tree_places.specs.Kept.{within, Kept}
+use Rattle.arrays.specs.Lists.{entry}
+use Rattle.arrays.specs.Kept.{within, Kept}
 use Rattle.tree_places.proofs.WithinLaws.{within-in, within-before, within-behind}
 use Rattle.tree_places.proofs.Laminar.{below-laminar}
 

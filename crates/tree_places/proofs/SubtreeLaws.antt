@@ -15,7 +15,8 @@ use Rattle.cuts.specs.Tree.{below, Member, Spanning}
 use Rattle.cuts.proofs.FlagLaws.{truth, agree, eqb-comm}
 use Rattle.cuts.proofs.SumLaws.{sum-congr, sum-add, sum-const, sum-zero, sum-only, sum-swap, sum-single, count-most}
 use Rattle.cuts.proofs.Spanning.{below-rootless}
-use Rattle.arrays.specs.Order.{entry, Ordered}
+use Rattle.arrays.specs.Lists.{entry}
+use Rattle.arrays.specs.Order.{Ordered}
 use Rattle.arrays.proofs.OrderLaws.{Spot, spot, climb, link-once, not-root}
 use Rattle.arrays.proofs.BelowLaws.{below-law, below-parent}
 use Rattle.tree_places.specs.Places.{under, subtree}

@@ -10,7 +10,7 @@ use lib.Dec.{leb, ltb}
 use borrow.Author.Tests.{leb-true, leb-false, ltb-true, ltb-false, le-leb, lt-leb, lt-ltb, le-ltb}
 use Rattle.cuts.specs.Sums.{only}
 use Rattle.cuts.proofs.FlagLaws.{truth, clash}
-use Rattle.tree_places.specs.Kept.{within}
+use Rattle.arrays.specs.Kept.{within}
 
 pub within-in : (from to p : ℕ) → from ≤ p → p < to → within from to p ≡ true
 within-in from to p a b = rw (le-leb from p a, lt-ltb p to b)

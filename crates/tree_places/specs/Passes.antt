@@ -18,7 +18,7 @@ use lib.ListN.{set}
 use lib.Dec.{eqb, leb, ltb}
 use Rattle.cuts.specs.Sums.{sumTo, only}
 use Rattle.cuts.specs.Network.{Tree, Network}
-use Rattle.arrays.specs.Order.{entry}
+use Rattle.arrays.specs.Lists.{entry}
 use Rattle.tree_places.specs.Places.{subtree}
 
 -- ---- sizes, from the last position on

@@ -19,8 +19,9 @@ use lib.Dec.{eqb}
 use Rattle.cuts.specs.Sums.{sumTo, countTo}
 use Rattle.cuts.specs.Network.{Tree, Network, flag}
 use Rattle.cuts.specs.Tree.{below, Spanning}
-use Rattle.arrays.specs.Order.{entry, Ordered, Lower}
-use Rattle.tree_places.specs.Kept.{within}
+use Rattle.arrays.specs.Lists.{entry}
+use Rattle.arrays.specs.Order.{Ordered, Lower}
+use Rattle.arrays.specs.Kept.{within}
 
 -- ---- subtrees
 

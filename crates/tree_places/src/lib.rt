@@ -8,11 +8,10 @@ ghost use mathlib.Core.List.{List};
 ghost use Prim.Native.Nat.{ℕ, _+_, _%_, _≤_, _<_};
 ghost use lib.ListN.{set};
 ghost use Rattle.cuts.specs.Network.{Network, Tree};
-ghost use Rattle.arrays.specs.Order.{entry};
-ghost use Rattle.arrays.specs.Growing.{Within};
+ghost use Rattle.arrays.specs.Lists.{entry, Within};
 ghost use Rattle.tree_places.specs.Places.{Rooted, Sized, Heaviest, Preorder, HeavyFirst, ByPlace, Gathered};
 ghost use Rattle.tree_places.specs.Passes.{heavier, sizeIn};
-ghost use Rattle.tree_places.specs.Kept.{Kept};
+ghost use Rattle.arrays.specs.Kept.{Kept};
 
 // A tree by its places: the place of each node and, by place, the node, its stop, which is the first place behind its subtree, and its
 // parent link.

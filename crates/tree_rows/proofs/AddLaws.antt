@@ -14,7 +14,7 @@ use lib.Dec.{eqb}
 use borrow.Author.Tests.{eqb-true, eqb-false}
 use Rattle.cuts.specs.Sums.{only}
 use Rattle.cuts.proofs.FlagLaws.{truth}
-use Rattle.arrays.specs.Order.{entry}
+use Rattle.arrays.specs.Lists.{entry}
 use Rattle.tree_rows.specs.Rows.{sumOver}
 use Rattle.tree_rows.proofs.OverLaws.{over-none, over-suc, over-more}
 use Rattle.tree_rows.proofs.WrapLaws.{wrap-add}

@@ -21,10 +21,10 @@ use Rattle.cuts.specs.Candidate.{one, weightOf}
 use Rattle.cuts.proofs.FlagLaws.{either, flags-equal, clash}
 use Rattle.cuts.proofs.SumLaws.{allTo-at, table-length, table-at}
 use Rattle.cuts.proofs.ListLaws.{mem-at}
-use Rattle.arrays.specs.Order.{entry}
-use Rattle.tree_growth.specs.ByNode.{linksAt, starts, listed}
-use Rattle.tree_places.specs.Kept.{within, LinksAt, Kept}
-use Rattle.tree_rows.specs.Rows.{sumOver, crossing, paired, Indexed}
+use Rattle.arrays.specs.Lists.{entry}
+use Rattle.arrays.specs.ByNode.{linksAt, starts, listed, Indexed}
+use Rattle.arrays.specs.Kept.{within, LinksAt, Kept}
+use Rattle.tree_rows.specs.Rows.{sumOver, crossing, paired}
 
 abbrev link : ℕ → ℕ → ℕ → Link
 link a b w = record { first = a; second = b; weight = w }

@@ -13,7 +13,7 @@ use Rattle.cuts.specs.Network.{Network, linkCount}
 use Rattle.cuts.specs.Limits.{Light}
 use Rattle.cuts.proofs.FlagLaws.{clash, truth, xor-comm}
 use Rattle.cuts.proofs.SumLaws.{sum-congr, sum-mono, sum-add, sum-const}
-use Rattle.tree_places.specs.Kept.{within}
+use Rattle.arrays.specs.Kept.{within}
 use Rattle.tree_places.proofs.WithinLaws.{within-is, within-join}
 use Rattle.tree_rows.specs.Rows.{sumOver, weightAt, firstPlace, secondPlace, tally, degree, crossing}
 use Rattle.tree_rows.proofs.OverLaws.{over-congr, over-add, over-only, over-swap, over-pick}

@@ -12,11 +12,11 @@ use Rattle.cuts.specs.Sums.{sumTo, only}
 use Rattle.cuts.specs.Network.{Tree, Network, linkAt, linkCount}
 use Rattle.cuts.proofs.FlagLaws.{truth}
 use Rattle.cuts.proofs.SumLaws.{sum-congr}
-use Rattle.arrays.specs.Order.{entry}
-use Rattle.arrays.specs.Growing.{Laid}
-use Rattle.tree_growth.specs.ByNode.{touches}
-use Rattle.tree_places.specs.Kept.{Kept}
-use Rattle.tree_rows.specs.Rows.{degree, weightAt, Loopless, Degrees, Weighted}
+use Rattle.arrays.specs.Lists.{entry}
+use Rattle.arrays.specs.Links.{Laid, Loopless}
+use Rattle.arrays.specs.ByNode.{touches, Degrees}
+use Rattle.arrays.specs.Kept.{Kept}
+use Rattle.tree_rows.specs.Rows.{degree, weightAt, Weighted}
 use Rattle.tree_rows.proofs.RunLaws.{ends-of}
 
 -- by node, from the links of the arrays

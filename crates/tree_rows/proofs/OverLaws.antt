@@ -12,7 +12,7 @@ use borrow.Author.Tests.{leb-true, le-leb, lt-leb, lt-ltb, ne-eqb}
 use Rattle.cuts.specs.Sums.{sumTo, only}
 use Rattle.cuts.proofs.FlagLaws.{truth}
 use Rattle.cuts.proofs.SumLaws.{only-none, sum-congr, sum-add, sum-zero, sum-only, sum-swap, sum-single}
-use Rattle.tree_places.specs.Kept.{within}
+use Rattle.arrays.specs.Kept.{within}
 use Rattle.tree_places.proofs.WithinLaws.{within-behind}
 use Rattle.tree_rows.specs.Rows.{sumOver}
 

@@ -16,8 +16,8 @@ use Rattle.cuts.specs.Candidate.{one, two, sharedWeight, pairWeight, weightOf}
 use Rattle.cuts.proofs.FlagLaws.{clash, xor-self}
 use Rattle.cuts.proofs.SumLaws.{sum-congr}
 use Rattle.cuts.proofs.CutLaws.{crosses-is, sharedWeight-most}
-use Rattle.arrays.specs.Order.{entry}
-use Rattle.tree_places.specs.Kept.{within, Kept}
+use Rattle.arrays.specs.Lists.{entry}
+use Rattle.arrays.specs.Kept.{within, Kept}
 use Rattle.tree_places.proofs.WithinLaws.{within-in, within-behind, within-is}
 use Rattle.tree_places.proofs.StopLaws.{stops-nest}
 use Rattle.tree_rows.specs.Rows.{sumOver, weightAt, firstPlace, secondPlace, crossing, paired}

@@ -8,7 +8,7 @@ use native.Mathlib.Omega.{arith}
 use lib.ListN.{length, take, drop, set}
 use lib.Seq.{take-set-le, take-set-lt, drop-set-lt, drop-set-add, getD-take, getD-drop, take-at, drop-at, take-nil, take-take, length-take-le}
 use borrow.Rule.Slice.PartMut.{putMid, postOf, same-len-mid, mid-len, take-put}
-use Rattle.arrays.specs.Order.{entry}
+use Rattle.arrays.specs.Lists.{entry}
 use Rattle.tree_rows.specs.Rows.{degreesIn, talliesIn, singlesIn, sumsIn}
 
 -- ---- what a part has

@@ -12,9 +12,9 @@ use lib.Seq.{getD-set-same, getD-set-other}
 use Rattle.cuts.specs.Network.{Tree, Network}
 use Rattle.cuts.specs.Candidate.{one, weightOf}
 use Rattle.cuts.specs.Limits.{Light}
-use Rattle.arrays.specs.Order.{entry}
-use Rattle.arrays.specs.Growing.{Laid}
-use Rattle.tree_places.specs.Kept.{Kept}
+use Rattle.arrays.specs.Lists.{entry}
+use Rattle.arrays.specs.Links.{Laid}
+use Rattle.arrays.specs.Kept.{Kept}
 use Rattle.tree_places.proofs.StopLaws.{stops-nest}
 use Rattle.tree_rows.specs.Rows.{tally, paired, talliesIn, singlesIn, sumsIn, Added, Tallied, Summed, Row}
 use Rattle.tree_rows.proofs.CrossLaws.{tally-join, tally-none, tally-small, crossing-small}

@@ -15,14 +15,14 @@ use Rattle.cuts.specs.Network.{Tree, Network, linkAt, linkCount}
 use Rattle.cuts.proofs.FlagLaws.{truth}
 use Rattle.cuts.proofs.SumLaws.{sum-congr, table-length, table-at}
 use Rattle.cuts.proofs.ListLaws.{mem-at}
-use Rattle.arrays.specs.Order.{entry}
-use Rattle.arrays.specs.Growing.{Laid}
-use Rattle.tree_growth.specs.ByNode.{touches, far, ByNode, listed}
+use Rattle.arrays.specs.Lists.{entry}
+use Rattle.arrays.specs.Links.{Laid, Loopless}
+use Rattle.arrays.specs.ByNode.{touches, far, ByNode, listed, AllByNode}
 use Rattle.tree_growth.proofs.EndsLaws.{linksAt-of, run-mem}
 use Rattle.tree_growth.proofs.RunLaws.{run-sum}
-use Rattle.tree_places.specs.Kept.{within, Kept}
+use Rattle.arrays.specs.Kept.{within, Kept}
 use Rattle.tree_places.proofs.WithinLaws.{within-in, within-is}
-use Rattle.tree_rows.specs.Rows.{sumOver, weightAt, firstPlace, secondPlace, tally, Loopless, AllByNode}
+use Rattle.tree_rows.specs.Rows.{sumOver, weightAt, firstPlace, secondPlace, tally}
 use Rattle.tree_rows.proofs.OverLaws.{over-shift}
 
 -- what link k gives to place y from its end at x, as the arrays have it

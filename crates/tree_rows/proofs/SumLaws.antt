@@ -11,7 +11,7 @@ use lib.ListN.{length, set, length-set}
 use lib.Seq.{length-take-le, getD-set-same, getD-set-other, take-set-lt}
 use Rattle.cuts.specs.Network.{Network}
 use Rattle.cuts.specs.Limits.{Light}
-use Rattle.arrays.specs.Order.{entry}
+use Rattle.arrays.specs.Lists.{entry}
 use Rattle.tree_places.proofs.WithinLaws.{within-in, within-behind}
 use Rattle.tree_rows.specs.Rows.{sumOver, crossing, Weighted, degreesIn, talliesIn, sumsIn, Tallied, Summed}
 use Rattle.tree_rows.proofs.OverLaws.{over-none, over-suc}

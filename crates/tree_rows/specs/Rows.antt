@@ -1,5 +1,5 @@
--- A row of pairs: what the links of a network weigh between the places of a tree's nodes, for the places below one tree link. `places` says
--- what a place, its stop and its link are, and `growth` how links are listed by node. Assumes nothing.
+-- A row of pairs: what the links of a network weigh between the places of a tree's nodes, for the places below one tree link. `Kept` says
+-- what a place, its stop and its link are. Assumes nothing.
 --   sumOver from to g              g from + .. + g (to - 1)
 --   weightAt net k                 the weight of link k
 --   firstPlace net pl k            the place of the first end of link k
@@ -10,12 +10,6 @@
 --   crossing net pl from to y      the weight of the links at the place y that cross the places from, .., to - 1: at one of them the
 --                                  degree less the tally, elsewhere the tally
 --   paired e f                     the handle of two links, the lower number first
---   Loopless net                   no link joins a node to itself
---   AllByNode fs ss hs ls n        the links 0, .., m - 1, for some m up to 2,048, are listed by node, and the n nodes have their ends
---   Indexed net es ws ls n m       the arrays hold the network, which has n nodes and m links, is light and loopless, and list its links
---                                  by node: es has the first ends and the second ends, ws the weights, ls where each node's links begin
---                                  and behind that the links' numbers
---   Degrees net ds                 ds has for each node the weight of its links
 --   Weighted net pl ds             ds has for each place its degree
 --   sumsIn figures                 of an array with four parts by place, the first: a row's sums, one more than there are places
 --   degreesIn figures              the second: the degree of each place
@@ -29,18 +23,15 @@
 --                                  singles have the weight of each link at u and behind, alone
 use Prim.Native.Nat.{ℕ, suc, _+_, _-_, _^_, _≤_, _<_}
 use mathlib.Core.Path.{_≡_}
-use mathlib.Core.Bool.{_||_, cond}
+use mathlib.Core.Bool.{cond}
 use mathlib.Core.List.{List}
 use lib.ListN.{take, drop}
 use lib.Dec.{eqb, leb, ltb}
-use Rattle.cuts.specs.Sums.{sumTo, only, table}
+use Rattle.cuts.specs.Sums.{sumTo, only}
 use Rattle.cuts.specs.Network.{Tree, Network, linkAt, linkCount}
 use Rattle.cuts.specs.Candidate.{Handle, one, two, weightOf}
-use Rattle.cuts.specs.Limits.{Light}
-use Rattle.arrays.specs.Order.{entry, part}
-use Rattle.arrays.specs.Growing.{Laid}
-use Rattle.tree_growth.specs.ByNode.{ByNode, starts, listed}
-use Rattle.tree_places.specs.Kept.{within}
+use Rattle.arrays.specs.Lists.{entry}
+use Rattle.arrays.specs.Kept.{within}
 
 -- ---- sums over places
 
@@ -77,24 +68,6 @@ crossing net place from to y =
 
 abbrev pub paired : ℕ → ℕ → Handle
 paired e f = cond (ltb e f) (two e f) (two f e)
-
--- ---- the network
-
-abbrev pub Loopless : Network → Type 0
-Loopless net = (k : ℕ) → k < linkCount net → linkAt net k .first ≡ linkAt net k .second → ⊥
-
-abbrev pub AllByNode : List ℕ → List ℕ → List ℕ → List ℕ → ℕ → Type 0
-AllByNode firsts seconds head list nodes = (m : ℕ) × (m ≤ 2_048) × ByNode firsts seconds (table m (λ k. k)) head list nodes
-
-pub record Indexed (net : Network) (ends : List (List ℕ)) (weights lists : List ℕ) (nodes links : ℕ) : Type 0 where
-  pub laid : Laid net (part ends 0) (part ends 1) weights nodes links
-  pub light : Light net
-  pub loopless : Loopless net
-  pub by-node : ByNode (part ends 0) (part ends 1) (table links (λ k. k)) (starts lists) (listed lists) nodes
-
-abbrev pub Degrees : Network → List ℕ → Type 0
-Degrees net degrees = (x : ℕ) → x < net .nodes
-    → entry degrees x ≡ sumTo (linkCount net) (λ k. only (eqb (linkAt net k .first) x || eqb (linkAt net k .second) x) (weightAt net k))
 
 -- ---- figures by place
 

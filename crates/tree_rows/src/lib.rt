@@ -18,11 +18,11 @@ ghost use Rattle.cuts.specs.Sums.{table};
 ghost use Rattle.cuts.specs.Network.{Network, Tree};
 ghost use Rattle.cuts.specs.Candidate.{weightOf};
 ghost use Rattle.cuts.specs.Limits.{Light};
-ghost use Rattle.arrays.specs.Order.{entry, part};
-ghost use Rattle.arrays.specs.Growing.{Laid, Within};
-ghost use Rattle.tree_growth.specs.ByNode.{ByNode, starts, listed};
-ghost use Rattle.tree_places.specs.Kept.{Kept};
-ghost use Rattle.tree_rows.specs.Rows.{paired, Loopless, AllByNode, Indexed, Weighted, degreesIn, talliesIn, singlesIn, sumsIn, Added, Tallied, Summed, Row};
+ghost use Rattle.arrays.specs.Lists.{entry, part, Within};
+ghost use Rattle.arrays.specs.Links.{Laid, Loopless};
+ghost use Rattle.arrays.specs.ByNode.{ByNode, starts, listed, AllByNode, Indexed};
+ghost use Rattle.arrays.specs.Kept.{Kept};
+ghost use Rattle.tree_rows.specs.Rows.{paired, Weighted, degreesIn, talliesIn, singlesIn, sumsIn, Added, Tallied, Summed, Row};
 
 // What `from` has for the node at each place.
 pub fn gather(out: &mut [u64], node: &[u8], from: &[u64])

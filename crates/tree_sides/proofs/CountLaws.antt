@@ -18,8 +18,8 @@ use Rattle.cuts.specs.Candidate.{Handle, sideOf}
 use Rattle.cuts.proofs.FlagLaws.{agree, clash, xor-comm}
 use Rattle.cuts.proofs.SumLaws.{sum-congr, sum-add, sum-zero, sum-swap, sum-single, count-cut}
 use Rattle.cuts.proofs.CutLaws.{flag-symDiff}
-use Rattle.arrays.specs.Order.{entry}
-use Rattle.tree_places.specs.Kept.{within, Kept}
+use Rattle.arrays.specs.Lists.{entry}
+use Rattle.arrays.specs.Kept.{within, Kept}
 use Rattle.tree_places.proofs.WithinLaws.{within-in, within-behind, within-is}
 use Rattle.tree_places.proofs.StopLaws.{stops-nest}
 use Rattle.search_order.specs.Choice.{chosen}

@@ -19,10 +19,10 @@ use Rattle.cuts.specs.Candidate.{Handle, one, two, Fits, sideOf}
 use Rattle.cuts.proofs.FlagLaws.{truth, xor-false}
 use Rattle.cuts.proofs.CutLaws.{flag-symDiff, symDiff-length}
 use Rattle.cuts.proofs.Spanning.{below-rootless}
-use Rattle.arrays.specs.Order.{entry}
+use Rattle.arrays.specs.Lists.{entry}
 use Rattle.arrays.specs.Marks.{marks}
 use Rattle.arrays.proofs.MarkLaws.{marks-length, marks-at}
-use Rattle.tree_places.specs.Kept.{within, Kept}
+use Rattle.arrays.specs.Kept.{within, Kept}
 use Rattle.search_order.specs.Choice.{chosen}
 
 pub marks-of : (s : Side) (xs : List ℕ) (n : ℕ) → length s ≡ n → length xs ≡ 256 → ((x : ℕ) → x < n → entry xs x ≡ only (flag s x) 1)

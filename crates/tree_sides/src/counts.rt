@@ -9,8 +9,8 @@ ghost use lib.ListN.{length};
 ghost use Rattle.cuts.specs.Network.{Network, Tree};
 ghost use Rattle.cuts.specs.Cut.{size};
 ghost use Rattle.cuts.specs.Candidate.{sideOf};
-ghost use Rattle.arrays.specs.Growing.{Within};
-ghost use Rattle.tree_places.specs.Kept.{Kept};
+ghost use Rattle.arrays.specs.Lists.{Within};
+ghost use Rattle.arrays.specs.Kept.{Kept};
 ghost use Rattle.search_order.specs.Visits.{handleAt};
 
 // The number of nodes below the link at the place `u`: those from its own place up to its stop.

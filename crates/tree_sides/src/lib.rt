@@ -10,9 +10,9 @@ ghost use Rattle.cuts.specs.Sums.{only};
 ghost use Rattle.cuts.specs.Network.{Network, Tree};
 ghost use Rattle.cuts.specs.Tree.{Member};
 ghost use Rattle.cuts.specs.Candidate.{Fits, sideOf};
-ghost use Rattle.arrays.specs.Order.{entry};
+ghost use Rattle.arrays.specs.Lists.{entry};
 ghost use Rattle.arrays.specs.Marks.{marks};
-ghost use Rattle.tree_places.specs.Kept.{within, LinksAt, Kept};
+ghost use Rattle.arrays.specs.Kept.{within, LinksAt, Kept};
 ghost use Rattle.search_order.specs.Choice.{chosen};
 
 // The place of a member's lower end, 0 where no place has the link.

@@ -14,7 +14,7 @@ use Rattle.cuts.proofs.Demands.{answer-demand2}
 use Rattle.arrays.specs.Marks.{marks}
 use Rattle.sheet.specs.Sheet.{current}
 use Rattle.read_header.specs.HeaderRead.{countsOf}
-use Rattle.read_sheet.specs.SheetRead.{treesFrom, networkAt}
+use Rattle.arrays.specs.Records.{treesFrom, networkAt}
 use Rattle.search_order.specs.Choice.{Says}
 use Rattle.search_sheet.proofs.NetworkLaws.{networkAt-links-most, networkAt-trees, networkAt-trees-most, networkAt-laid}
 use Rattle.op_report.proofs.AnswerLaws.{says-best, floor-is, verdict-is}

@@ -5,13 +5,14 @@ use mathlib.Core.List.{[]}
 use native.Mathlib.Omega.{arith}
 use borrow.Author.Needs.{needs}
 use Rattle.cuts.specs.Network.{Network, linkCount}
-use Rattle.arrays.specs.Order.{part}
+use Rattle.arrays.specs.Lists.{part}
 use Rattle.sheet.specs.Bytes.{Bytes}
 use Rattle.sheet.specs.Reading.{accepted}
 use Rattle.sheet.specs.Sheet.{current, decode}
 use Rattle.read_header.specs.HeaderRead.{countsOf}
 use Rattle.read_links.proofs.LinksLaws.{linksOf-length}
-use Rattle.read_sheet.specs.SheetRead.{networkAt, sheetSays}
+use Rattle.arrays.specs.Records.{networkAt}
+use Rattle.read_sheet.specs.SheetRead.{sheetSays}
 use Rattle.read_sheet.specs.declared.Outcome.{Outcome}
 use Rattle.op_trunks.proofs.NumberLaws.{links-there, header-links, numbers-read, numbers-refused}
 use Rattle.op_trunks.proofs.read_trunks.Statement.{statement}

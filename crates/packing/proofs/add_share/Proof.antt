@@ -5,7 +5,7 @@ use mathlib.Core.Path.{_≡_, refl, sym, _∙_}
 use mathlib.Core.Logic.{⊎-elim}
 use native.Mathlib.Omega.{arith}
 use lib.ListN.{length, length-set}
-use Rattle.arrays.specs.Order.{entry}
+use Rattle.arrays.specs.Lists.{entry}
 use Rattle.packing.specs.Loads.{ShareAdded}
 use Rattle.packing.proofs.ShareLaws.{added-none, added-set, added-unset}
 use Rattle.packing.proofs.add_share.Statement.{statement}

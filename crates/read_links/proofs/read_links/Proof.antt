@@ -8,7 +8,8 @@ use lib.ListN.{drop}
 use lib.Dec.{eqb}
 use Rattle.cuts.specs.Sums.{table}
 use Rattle.sheet.specs.Sheet.{current, linkRecord}
-use Rattle.read_links.specs.LinksRead.{linkOf, linkSays, LinkInside, linksOf}
+use Rattle.read_links.specs.LinksRead.{linkOf, linkSays, LinkInside}
+use Rattle.arrays.specs.Links.{linksOf}
 use Rattle.read_links.specs.declared.Record.{Record}
 use Rattle.sheet.proofs.ReadingLaws.{run-start}
 use Rattle.sheet.proofs.Acceptance.{GoodLink}

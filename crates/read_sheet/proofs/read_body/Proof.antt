@@ -7,16 +7,14 @@ use native.Mathlib.Omega.{arith}
 use borrow.Author.Needs.{needs}
 use lib.ListN.{length, drop}
 use Rattle.cuts.specs.Network.{Link, Network}
-use Rattle.arrays.specs.Order.{part}
-use Rattle.arrays.specs.Growing.{Held, EndArrays}
-use Rattle.tree_growth.specs.ByNode.{Ending}
+use Rattle.arrays.specs.Lists.{part}
+use Rattle.arrays.specs.Links.{Held, EndArrays, linksOf, Ending}
 use Rattle.tree_growth.proofs.RunLaws.{held-ending}
 use Rattle.sheet.specs.Reading.{records}
 use Rattle.sheet.specs.Sheet.{current, nextLink, treeLength, treeRecord, network}
 use Rattle.format.specs.Steps.{stepSays, Inside, EndsAt}
 use Rattle.read_header.specs.HeaderRead.{countsOf}
-use Rattle.read_links.specs.LinksRead.{linksOf}
-use Rattle.read_sheet.specs.SheetRead.{treesFrom}
+use Rattle.arrays.specs.Records.{treesFrom}
 use Rattle.format.specs.declared.Step.{Step}
 use Rattle.read_links.proofs.LinksLaws.{linksOf-length}
 use Rattle.read_sheet.proofs.SheetLaws.{held-links, refused-by-links, refused-by-trees, bytes-left, sheet-read}

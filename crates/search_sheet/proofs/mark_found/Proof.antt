@@ -10,7 +10,7 @@ use Rattle.cuts.specs.Candidate.{Fits, sideOf}
 use Rattle.arrays.specs.Marks.{marks}
 use Rattle.sheet.specs.Sheet.{treeLength, treeIn}
 use Rattle.read_header.specs.HeaderRead.{countsOf}
-use Rattle.read_sheet.specs.SheetRead.{networkAt}
+use Rattle.arrays.specs.Records.{networkAt}
 use Rattle.read_sheet.proofs.TreeLaws.{record-inside}
 use Rattle.search_order.specs.Choice.{chosen}
 use Rattle.search_sheet.proofs.NetworkLaws.{networkAt-links-most, networkAt-laid, networkAt-tree, networkAt-ending, networkAt-spanning, networkAt-counted}

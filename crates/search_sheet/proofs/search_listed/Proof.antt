@@ -11,7 +11,7 @@ use Rattle.cuts.specs.Candidate.{Candidate, fewerNodes, ahead}
 use Rattle.search_order.specs.Choice.{Says, Prior, treeCandidates}
 use Rattle.sheet.specs.Sheet.{treeLength}
 use Rattle.read_header.specs.HeaderRead.{countsOf}
-use Rattle.read_sheet.specs.SheetRead.{networkAt}
+use Rattle.arrays.specs.Records.{networkAt}
 use Rattle.read_sheet.proofs.TreeLaws.{record-inside}
 use Rattle.search_sheet.proofs.NetworkLaws.{networkAt-links-most, networkAt-trees-most, networkAt-trees, networkAt-tree, networkAt-ending, networkAt-spanning, networkAt-counted}
 use Rattle.search_sheet.proofs.ToComeLaws.{Visiting, trees-start, trees-more, trees-done}

@@ -3,7 +3,7 @@ use Prim.Native.Nat.{_≤_}
 use borrow.Author.Needs.{needs}
 use Rattle.cuts.specs.Network.{Network}
 use Rattle.read_header.specs.HeaderRead.{countsOf}
-use Rattle.read_sheet.specs.SheetRead.{networkAt}
+use Rattle.arrays.specs.Records.{networkAt}
 use Rattle.search_sheet.proofs.NetworkLaws.{networkAt-links-most, networkAt-laid, networkAt-ending}
 use Rattle.search_sheet.proofs.search_trees.Statement.{statement}
 use Rattle.search_sheet.proofs.search_trees.Tie as tie

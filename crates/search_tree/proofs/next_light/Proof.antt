@@ -9,7 +9,7 @@ use Rattle.cuts.specs.Network.{Network, Tree}
 use Rattle.cuts.specs.Candidate.{weightOf}
 use Rattle.cuts.specs.Limits.{Light}
 use Rattle.cuts.proofs.SumLaws.{all-suc}
-use Rattle.tree_places.specs.Kept.{Kept}
+use Rattle.arrays.specs.Kept.{Kept}
 use Rattle.tree_rows.specs.Rows.{Row}
 use Rattle.search_order.specs.Visits.{handleAt}
 use Rattle.search_tree.proofs.PairLaws.{pair-at}

@@ -8,7 +8,7 @@ use native.Mathlib.Omega.{arith}
 use Rattle.cuts.specs.Network.{Network, Tree}
 use Rattle.cuts.specs.Candidate.{Candidate, fewerNodes, ahead, weightOf}
 use Rattle.cuts.specs.Limits.{Light}
-use Rattle.tree_places.specs.Kept.{Kept}
+use Rattle.arrays.specs.Kept.{Kept}
 use Rattle.tree_rows.specs.Rows.{Row}
 use Rattle.tree_rows.proofs.PartLaws.{singlesIn-at}
 use Rattle.search_order.specs.Visits.{Reached}

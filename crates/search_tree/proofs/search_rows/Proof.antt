@@ -9,9 +9,10 @@ use borrow.Author.Needs.{needs}
 use lib.ListN.{length}
 use Rattle.cuts.specs.Network.{Network, Tree}
 use Rattle.cuts.specs.Candidate.{Candidate, fewerNodes, ahead}
-use Rattle.arrays.specs.Order.{part}
-use Rattle.tree_places.specs.Kept.{Kept}
-use Rattle.tree_rows.specs.Rows.{Indexed, Weighted, degreesIn, Row}
+use Rattle.arrays.specs.Lists.{part}
+use Rattle.arrays.specs.Kept.{Kept}
+use Rattle.arrays.specs.ByNode.{Indexed}
+use Rattle.tree_rows.specs.Rows.{Weighted, degreesIn, Row}
 use Rattle.tree_rows.proofs.RowLaws.{row-end}
 use Rattle.search_order.specs.Choice.{Says}
 use Rattle.search_order.specs.Visits.{Reached}

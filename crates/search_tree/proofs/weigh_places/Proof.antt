@@ -7,7 +7,7 @@ use borrow.Author.Needs.{needs}
 use borrow.Rule.Slice.PartMut.{postOf, mid-len}
 use lib.ListN.{length, take}
 use lib.Seq.{length-take-le, take-at, drop-at}
-use Rattle.arrays.specs.Order.{entry}
+use Rattle.arrays.specs.Lists.{entry}
 use Rattle.search_tree.proofs.weigh_places.Statement.{statement}
 use Rattle.search_tree.proofs.weigh_places.Tie as tie
 

@@ -5,7 +5,7 @@ use Prim.Native.Nat.{ℕ}
 use native.Mathlib.Omega.{arith}
 use borrow.Author.Needs.{needs}
 use lib.ListN.{take}
-use Rattle.tree_growth.specs.ByNode.{ByNode, starts, listed}
+use Rattle.arrays.specs.ByNode.{ByNode, starts, listed}
 use Rattle.tree_growth.proofs.grow.Statement.{statement}
 use Rattle.tree_growth.proofs.grow.Tie as tie
 

@@ -10,9 +10,10 @@ use native.Mathlib.Omega.{arith}
 use lib.ListN.{length, take, drop, replicate, length-drop, getD-replicate}
 use lib.Seq.{take-all}
 use borrow.Author.Tests.{eq-eqb, ne-eqb}
-use Rattle.arrays.specs.Order.{entry}
+use Rattle.arrays.specs.Lists.{entry}
 use Rattle.arrays.proofs.GrowthLaws.{growing-start}
-use Rattle.tree_growth.specs.ByNode.{Ending, ByNode, starts, listed}
+use Rattle.arrays.specs.Links.{Ending}
+use Rattle.arrays.specs.ByNode.{ByNode, starts, listed}
 use Rattle.tree_growth.proofs.EndsLaws.{run-known, far-in}
 use Rattle.tree_growth.proofs.QueueLaws.{Run, Row, queue-start, queue-most, queue-lacks, run-start, run-pass, run-step, run-end, grown-stuck, grown-done}
 use Rattle.tree_growth.proofs.grow_queue.Statement.{statement}

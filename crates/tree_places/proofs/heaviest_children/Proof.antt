@@ -11,7 +11,7 @@ use mir.Syntax.{w8}
 use mir.Val.{Fits}
 use borrow.Author.Needs.{needs}
 use Rattle.cuts.specs.Network.{Network, Tree}
-use Rattle.arrays.specs.Order.{entry}
+use Rattle.arrays.specs.Lists.{entry}
 use Rattle.tree_places.specs.Places.{Rooted}
 use Rattle.tree_places.specs.Passes.{Heavy}
 use Rattle.tree_places.proofs.HeavyLaws.{heavy-start, heavy-turn, heavy-last}

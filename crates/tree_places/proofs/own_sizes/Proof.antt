@@ -6,7 +6,7 @@ use native.Mathlib.Numerals.{add-one}
 use lib.ListN.{length, set, length-set}
 use lib.Seq.{getD-set-same, getD-set-other}
 use Rattle.cuts.proofs.SumLaws.{all-suc}
-use Rattle.arrays.specs.Order.{entry}
+use Rattle.arrays.specs.Lists.{entry}
 use Rattle.tree_places.proofs.own_sizes.Statement.{statement}
 use Rattle.tree_places.proofs.own_sizes.Tie as tie
 

@@ -16,8 +16,7 @@ use mir.Val.{Fits}
 use borrow.Author.Needs.{needs}
 use borrow.Author.Tests.{eq-eqb, ne-eqb}
 use Rattle.cuts.specs.Network.{Network, Tree}
-use Rattle.arrays.specs.Order.{entry}
-use Rattle.arrays.specs.Growing.{Within}
+use Rattle.arrays.specs.Lists.{entry, Within}
 use Rattle.tree_places.specs.Places.{Rooted, Sized, Heaviest}
 use Rattle.tree_places.specs.Passes.{seat, Placing}
 use Rattle.tree_places.proofs.SmallLaws.{zeros-within, set-within}

@@ -10,7 +10,7 @@ use borrow.Author.Needs.{needs}
 use mir.Val.{Fits}
 use mir.Syntax.{w8}
 use Rattle.cuts.specs.Network.{Network, Tree}
-use Rattle.arrays.specs.Order.{entry}
+use Rattle.arrays.specs.Lists.{entry}
 use Rattle.tree_places.specs.Places.{Rooted}
 use Rattle.tree_places.specs.Passes.{SizedFrom}
 use Rattle.tree_places.proofs.SizeLaws.{sized-first, sized-turn, sized-last}

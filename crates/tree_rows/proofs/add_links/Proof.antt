@@ -6,7 +6,7 @@ use native.Mathlib.Omega.{arith}
 use lib.ListN.{length, length-set}
 use lib.Dec.{eqb}
 use Rattle.cuts.specs.Sums.{only}
-use Rattle.arrays.specs.Order.{entry}
+use Rattle.arrays.specs.Lists.{entry}
 use Rattle.tree_growth.proofs.EndsLaws.{run-known}
 use Rattle.tree_rows.proofs.RunLaws.{gives, run-links, run-few}
 use Rattle.tree_rows.proofs.AddLaws.{Adding, adding-start, adding-more, adding-done}

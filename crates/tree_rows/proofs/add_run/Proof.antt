@@ -8,9 +8,10 @@ use native.Mathlib.Omega.{arith}
 use borrow.Author.Needs.{needs}
 use lib.ListN.{length}
 use Rattle.cuts.specs.Network.{Network, Tree}
-use Rattle.arrays.specs.Order.{part}
-use Rattle.tree_places.specs.Kept.{Kept}
-use Rattle.tree_rows.specs.Rows.{Indexed, Tallied}
+use Rattle.arrays.specs.Lists.{part}
+use Rattle.arrays.specs.Kept.{Kept}
+use Rattle.arrays.specs.ByNode.{Indexed}
+use Rattle.tree_rows.specs.Rows.{Tallied}
 use Rattle.tree_rows.proofs.RunLaws.{lent-all, lent-by-node}
 use Rattle.tree_rows.proofs.RowLaws.{tallied-behind}
 use Rattle.tree_rows.proofs.add_run.Statement.{statement}

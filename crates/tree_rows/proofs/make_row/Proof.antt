@@ -7,7 +7,7 @@ use native.Mathlib.Omega.{arith}
 use borrow.Author.Needs.{needs}
 use lib.ListN.{length, set}
 use borrow.Rule.Slice.PartMut.{mid-len}
-use Rattle.arrays.specs.Order.{entry}
+use Rattle.arrays.specs.Lists.{entry}
 use Rattle.tree_rows.specs.Rows.{Weighted, sumsIn, Tallied}
 use Rattle.tree_rows.proofs.PartLaws.{put-long, put-degrees, put-tallies, put-singles}
 use Rattle.tree_rows.proofs.RowLaws.{row-made}

@@ -2,7 +2,7 @@
 -- Assumes nothing.
 use Prim.Native.Nat.{_<_}
 use native.Mathlib.Omega.{arith}
-use Rattle.arrays.specs.Order.{entry}
+use Rattle.arrays.specs.Lists.{entry}
 use Rattle.tree_rows.proofs.RowLaws.{row-pair}
 use Rattle.tree_rows.proofs.pair_weight.Statement.{statement}
 use Rattle.tree_rows.proofs.pair_weight.Tie as tie

@@ -9,8 +9,8 @@ use borrow.Author.Count.{below-more}
 use lib.ListN.{length, set, length-set, getD-replicate}
 use lib.Seq.{getD-set-same, getD-set-other}
 use Rattle.cuts.specs.Sums.{only}
-use Rattle.arrays.specs.Order.{entry}
-use Rattle.tree_places.specs.Kept.{within}
+use Rattle.arrays.specs.Lists.{entry}
+use Rattle.arrays.specs.Kept.{within}
 use Rattle.tree_sides.proofs.mark_runs.Statement.{statement}
 use Rattle.tree_sides.proofs.mark_runs.Tie as tie
 

@@ -4,7 +4,7 @@ use Prim.Native.Nat.{ℕ, _-_, _≤_, _<_}
 use mathlib.Core.Path.{_≡_}
 use native.Mathlib.Omega.{arith}
 use borrow.Author.Count.{below-more}
-use Rattle.arrays.specs.Order.{entry}
+use Rattle.arrays.specs.Lists.{entry}
 use Rattle.tree_sides.proofs.place_of.Statement.{statement}
 use Rattle.tree_sides.proofs.place_of.Tie as tie
 

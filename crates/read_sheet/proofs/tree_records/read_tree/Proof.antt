@@ -8,8 +8,8 @@ use lib.ListN.{length, take, drop}
 use Rattle.cuts.specs.Sums.{table}
 use Rattle.cuts.specs.Network.{Network, linkCount}
 use Rattle.cuts.specs.Tree.{spans}
-use Rattle.arrays.specs.Order.{part}
-use Rattle.arrays.specs.Growing.{Held}
+use Rattle.arrays.specs.Lists.{part}
+use Rattle.arrays.specs.Links.{Held}
 use Rattle.sheet.specs.Bytes.{Bytes, mapBit}
 use Rattle.sheet.specs.Reading.{firstFailing}
 use Rattle.sheet.specs.Sheet.{mapLength, treeLength, treeIn, mapChecks}

@@ -9,8 +9,8 @@ use native.Mathlib.Omega.{arith}
 use borrow.Author.Needs.{needs}
 use lib.ListN.{length, drop}
 use Rattle.cuts.specs.Network.{Network, linkCount}
-use Rattle.arrays.specs.Order.{part}
-use Rattle.arrays.specs.Growing.{Held}
+use Rattle.arrays.specs.Lists.{part}
+use Rattle.arrays.specs.Links.{Held}
 use Rattle.sheet.specs.Sheet.{treeLength, treeIn, treeRecord}
 use Rattle.format.specs.Steps.{stepSays, EndsAt}
 use Rattle.format.specs.declared.Step.{Step}

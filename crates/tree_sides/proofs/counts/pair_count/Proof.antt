@@ -9,8 +9,8 @@ use native.Mathlib.Omega.{arith}
 use Rattle.cuts.specs.Network.{Network, Tree}
 use Rattle.cuts.specs.Cut.{size}
 use Rattle.cuts.specs.Candidate.{sideOf}
-use Rattle.arrays.specs.Order.{entry}
-use Rattle.tree_places.specs.Kept.{Kept}
+use Rattle.arrays.specs.Lists.{entry}
+use Rattle.arrays.specs.Kept.{Kept}
 use Rattle.search_order.specs.Visits.{handleAt}
 use Rattle.tree_sides.proofs.CountLaws.{single-count, pair-nested, pair-apart}
 use Rattle.tree_sides.proofs.counts.pair_count.Statement.{statement}

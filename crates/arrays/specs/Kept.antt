@@ -11,7 +11,7 @@ use mathlib.Core.List.{List}
 use lib.Dec.{leb, ltb}
 use Rattle.cuts.specs.Network.{Tree, Network, flag}
 use Rattle.cuts.specs.Tree.{below, Member, Spanning}
-use Rattle.arrays.specs.Order.{entry}
+use Rattle.arrays.specs.Lists.{entry}
 
 abbrev pub within : ℕ → ℕ → ℕ → Bool
 within from to p = leb from p && ltb p to

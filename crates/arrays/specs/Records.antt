@@ -1,0 +1,22 @@
+-- The network that arrays and the tree records of a sheet hold. Assumes nothing.
+--   treesFrom net k bs      the trees of the k records at the front of bs, each at its place behind the one before
+--   networkAt s es ws c p   the network that the arrays, of ends and of weights, and the tree records from position p of s on hold, with
+--                           the counts c
+use Prim.Native.Nat.{ℕ, _*_}
+use mathlib.Core.List.{List, []}
+use lib.ListN.{drop}
+use Rattle.cuts.specs.Sums.{table}
+use Rattle.cuts.specs.Network.{Link, Tree, Network, linkCount}
+use Rattle.sheet.specs.Bytes.{Bytes}
+use Rattle.sheet.specs.Sheet.{Counts, treeLength, treeIn, network}
+use Rattle.arrays.specs.Lists.{part}
+use Rattle.arrays.specs.Links.{linksOf}
+
+unfoldable pub treesFrom : Network → ℕ → Bytes → List Tree
+unfolding table treeIn
+treesFrom net k bs = table k (λ i. treeIn net (drop (i * treeLength (linkCount net)) bs))
+
+abbrev pub networkAt : Bytes → List (List ℕ) → List ℕ → Counts → ℕ → Network
+networkAt s ends ws c p =
+    let links : List Link = linksOf (c .links) (part ends 0) (part ends 1) ws in
+    network (c .nodes) links (treesFrom (network (c .nodes) links []) (c .trees) (drop p s))
