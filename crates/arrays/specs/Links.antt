@@ -1,6 +1,8 @@
 -- A network's links as arrays hold them: first ends, second ends and weights, at the links' numbers. Assumes nothing.
---   EndArrays es          es has two arrays of 2,048 numbers, for the first ends and the second ends of links
+--   EndArrays es          es has two arrays of as many numbers as there may be links, for the first ends and the second ends of links
+--   firstEnds es, secondEnds es   these two
 --   Ending fs ss n k      link k has its ends in the arrays, and they are nodes, of which there are n
+--   EndsKnown es n m      so it is of the first m links
 --   linksOf m fs ss ws    the m links whose first ends, second ends and weights stand in the arrays
 --   Held net fs ss n      the arrays hold the network: its links' first ends in fs, their second ends in ss, all of them nodes, of which
 --                         there are n, the root among them
@@ -13,18 +15,28 @@ use mathlib.Core.List.{List}
 use lib.ListN.{length, getD}
 use Rattle.cuts.specs.Sums.{table}
 use Rattle.cuts.specs.Network.{Link, Network, Linked, linkAt, linkCount}
+use Rattle.cuts.specs.Limits.{mostLinks}
 use Rattle.arrays.specs.Lists.{entry, part}
 
 pub record EndArrays (ends : List (List ℕ)) : Type 0 where
   pub both : length ends ≡ 2
-  pub firsts : length (part ends 0) ≡ 2_048
-  pub seconds : length (part ends 1) ≡ 2_048
+  pub firsts : length (part ends 0) ≡ mostLinks
+  pub seconds : length (part ends 1) ≡ mostLinks
+
+abbrev pub firstEnds : List (List ℕ) → List ℕ
+firstEnds ends = part ends 0
+
+abbrev pub secondEnds : List (List ℕ) → List ℕ
+secondEnds ends = part ends 1
 
 pub record Ending (fs ss : List ℕ) (nodes k : ℕ) : Type 0 where
   pub in-firsts : k < length fs
   pub in-seconds : k < length ss
   pub first-in : entry fs k < nodes
   pub second-in : entry ss k < nodes
+
+abbrev pub EndsKnown : List (List ℕ) → ℕ → ℕ → Type 0
+EndsKnown ends nodes count = (k : ℕ) → k < count → Ending (firstEnds ends) (secondEnds ends) nodes k
 
 unfoldable pub linksOf : ℕ → List ℕ → List ℕ → List ℕ → List Link
 unfolding table

@@ -15,10 +15,10 @@ use Rattle.cuts.specs.Demands.{Owed}
 use Rattle.sheet.specs.Bytes.{Bytes}
 use Rattle.sheet.specs.Reading.{Check, check, firstFailing, Reading, accepted, refused, unless, numberOf}
 use Rattle.sheet.specs.Sheet.{Format, decode}
-use Rattle.sheet.specs.Areas.{reportLength, sideAfter, reportAfter, answerRead}
+use Rattle.sheet.specs.Areas.{sideLength, reportLength, sideAfter, reportAfter, answerRead}
 
 unfoldable pub areaChecks : Format → Bytes → Bytes → List Check
-areaChecks f side report = check 1 (ltb (length side) 32) ∷ check 2 (ltb (length report) (reportLength f)) ∷ []
+areaChecks f side report = check 1 (ltb (length side) sideLength) ∷ check 2 (ltb (length report) (reportLength f)) ∷ []
 
 unfoldable pub reading : Format → Bytes → Bytes → Bytes → Reading Network
 unfolding firstFailing areaChecks decode

@@ -11,6 +11,7 @@ use mathlib.Core.List.{List, [], _∷_, _++_, map}
 use Rattle.cuts.specs.Sums.{select}
 use Rattle.cuts.specs.Network.{Network, flag}
 use Rattle.cuts.specs.Cut.{Side}
+use Rattle.cuts.specs.Limits.{mostNodes}
 use Rattle.cuts.specs.Candidate.{Handle, one, two}
 use Rattle.cuts.specs.Answer.{Answer, answer}
 use Rattle.sheet.specs.Reading.{Reading, accepted, refused}
@@ -37,7 +38,7 @@ answerFields a =
 -- there are at most 256 nodes, and past its last node a side has no flag set
 unfoldable pub sideFields : Side → List Text
 unfolding select
-sideFields s = map decimal (select 256 (flag s))
+sideFields s = map decimal (select mostNodes (flag s))
 
 unfoldable pub answerLines : Answer → Text
 unfolding line sideFields

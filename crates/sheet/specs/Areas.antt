@@ -1,5 +1,6 @@
 -- The side area and the report area (document 01, "Side area and report area"), by the format. Assumes nothing.
---   sideBytes s                the 32 bytes of the side area: node k is bit k; past its last node a side has no flag set
+--   sideLength                 the bytes of a side area that are written
+--   sideBytes s                the bytes of the side area: node k is bit k; past its last node a side has no flag set
 --   reportWidths f             the widths of the report area's fields
 --   reportLength f             how many bytes the report area has: the sum of these widths
 --   firstLink h, secondLink h  the links that a handle names; noSecond, 65535, stands for the second of a single one
@@ -25,9 +26,12 @@ use Rattle.cuts.specs.Answer.{Answer, reported, answer}
 use Rattle.sheet.specs.Bytes.{Bytes, fields, fieldBytes, mapBit, byteOf}
 use Rattle.sheet.specs.Sheet.{Format}
 
+abbrev pub sideLength : ℕ
+sideLength = 32
+
 unfoldable pub sideBytes : Side → Bytes
 unfolding table byteOf
-sideBytes s = table 32 (λ j. byteOf (λ i. flag s (8 * j + i)))
+sideBytes s = table sideLength (λ j. byteOf (λ i. flag s (8 * j + i)))
 
 abbrev pub reportWidths : Format → List ℕ
 reportWidths f = 1 ∷ 1 ∷ 2 ∷ 2 ∷ 2 ∷ f .sumWidth ∷ f .sumWidth ∷ []

@@ -19,7 +19,7 @@ use lib.Dec.{eqb, leb}
 use Rattle.cuts.specs.Network.{Link}
 use Rattle.sheet.specs.Bytes.{Bytes, bit}
 use Rattle.sheet.specs.Reading.{Reading, accepted, refused, numberOf}
-use Rattle.sheet.specs.Sheet.{Format, trunked, countsIn, headerRecord, mapByte, fieldStart, recordLength, linkRecord, nextLink}
+use Rattle.sheet.specs.Sheet.{Format, trunked, headerLength, countsIn, headerRecord, mapByte, fieldStart, recordLength, linkRecord, nextLink}
 
 abbrev pub trunkMarked : Bytes → Bool
 trunkMarked bs = bit (mapByte bs) 3
@@ -64,4 +64,4 @@ plainLinks (suc k) bs = plainRecord bs ++ plainLinks k (drop (recordLength trunk
 
 unfoldable pub plain : Bytes → Bytes
 unfolding countsIn plainLinks
-plain sheet = take 5 sheet ++ plainLinks (countsIn sheet .links) (drop 5 sheet)
+plain sheet = take headerLength sheet ++ plainLinks (countsIn sheet .links) (drop headerLength sheet)

@@ -8,6 +8,7 @@
 --   trunked                      the format of request F-9
 --   smallFirst                   the format of request F-6
 --   current                      the format in force
+--   headerLength                 the bytes of the header
 --   Counts                       how many nodes, links and trees there are
 --   countsIn sheet               the header's three counts
 --   countChecks c                refusals 4 to 6
@@ -46,6 +47,7 @@ use Rattle.cuts.specs.Sums.{sumTo, only, countTo, anyTo, table}
 use Rattle.cuts.specs.Network.{Link, Tree, Network, noLink, linkAt, linkCount, treeAt}
 use Rattle.cuts.specs.Tree.{Sound, spans}
 use Rattle.cuts.specs.Candidate.{alike, fewerNodes}
+use Rattle.cuts.specs.Limits.{mostNodes, mostLinks, mostTrees}
 use Rattle.cuts.specs.Bound.{allOrNone, longestRun}
 use Rattle.cuts.specs.Answer.{Rules}
 use Rattle.sheet.specs.Bytes.{Bytes, number, bit, mapBit}
@@ -91,6 +93,9 @@ current = smallFirst
 
 -- ---- header
 
+abbrev pub headerLength : ℕ
+headerLength = 5
+
 pub record Counts : Type 0 where
   pub nodes : ℕ
   pub links : ℕ
@@ -102,15 +107,15 @@ countsIn sheet = record { nodes = number 2 sheet; links = number 2 (drop 2 sheet
 
 unfoldable pub countChecks : Counts → List Check
 countChecks c =
-    check 4 (ltb (c .nodes) 2 || ltb 256 (c .nodes))
-    ∷ check 5 (ltb (c .links) (c .nodes - 1) || ltb 2048 (c .links))
-    ∷ check 6 (eqb (c .trees) 0 || ltb 32 (c .trees))
+    check 4 (ltb (c .nodes) 2 || ltb mostNodes (c .nodes))
+    ∷ check 5 (ltb (c .links) (c .nodes - 1) || ltb mostLinks (c .links))
+    ∷ check 6 (eqb (c .trees) 0 || ltb mostTrees (c .trees))
     ∷ []
 
 unfoldable pub headerRecord : Bytes → Reading Counts
 unfolding firstFailing countsIn countChecks
 headerRecord sheet =
-    unless (firstFailing (check 3 (ltb (length sheet) 5) ∷ countChecks (countsIn sheet))) (accepted (countsIn sheet) (drop 5 sheet))
+    unless (firstFailing (check 3 (ltb (length sheet) headerLength) ∷ countChecks (countsIn sheet))) (accepted (countsIn sheet) (drop headerLength sheet))
 
 -- ---- links
 
@@ -224,15 +229,15 @@ recordMost f = 1 + sumTo (length (f .widths)) (λ j. getD (f .widths) j 0)
 
 unfoldable pub sheetMost : Format → ℕ → ℕ → ℕ
 unfolding recordMost
-sheetMost f links trees = 5 + links * recordMost f + trees * treeLength links
+sheetMost f links trees = headerLength + links * recordMost f + trees * treeLength links
 
 -- ---- what an accepted sheet gives
 
 pub record Accepted (f : Format) (net : Network) : Type 0 where
   pub sound : Sound net
-  pub nodes-most : net .nodes ≤ 256
-  pub links-most : linkCount net ≤ 2048
-  pub trees-most : length (net .trees) ≤ 32
+  pub nodes-most : net .nodes ≤ mostNodes
+  pub links-most : linkCount net ≤ mostLinks
+  pub trees-most : length (net .trees) ≤ mostTrees
   pub ends-differ : (k : ℕ) → k < linkCount net → linkAt net k .first ≡ linkAt net k .second → ⊥
   pub weights-most : (k : ℕ) → k < linkCount net → linkAt net k .weight ≤ f .weightLimit
   pub members-sized : (i : ℕ) → i < length (net .trees) → length (treeAt net i .members) ≡ linkCount net

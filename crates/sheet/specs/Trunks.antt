@@ -7,7 +7,7 @@ use lib.ListN.{drop}
 use Rattle.cuts.specs.Network.{linkCount}
 use Rattle.sheet.specs.Bytes.{Bytes}
 use Rattle.sheet.specs.Reading.{Reading, accepted, andThen}
-use Rattle.sheet.specs.Sheet.{Format, fieldStart, recordLength, field, decode}
+use Rattle.sheet.specs.Sheet.{Format, headerLength, fieldStart, recordLength, field, decode}
 
 -- "Absent, it is the previous link's"
 unfoldable pub trunksFrom : Format → ℕ → ℕ → Bytes → List ℕ
@@ -18,4 +18,4 @@ trunksFrom f (suc k) before bs = let t : ℕ = field f 3 before bs in t ∷ trun
 -- "and for link 0 it is 0"; the sheet is refused as the panel reader refuses it
 unfoldable pub trunks : Format → Bytes → Reading (List ℕ)
 unfolding decode trunksFrom
-trunks f sheet = andThen (decode f sheet) (λ net end. accepted (trunksFrom f (linkCount net) 0 (drop 5 sheet)) end)
+trunks f sheet = andThen (decode f sheet) (λ net end. accepted (trunksFrom f (linkCount net) 0 (drop headerLength sheet)) end)

@@ -3,7 +3,9 @@
 // The ends of link k stand in firsts[k] and seconds[k].
 pub mod by_node; // links by node
 
+use by_node::STARTS;
 use by_node::list_by_node;
+use format::limits::MOST_NODES;
 ghost use mathlib.Core.Path.{_≡_};
 ghost use mathlib.Core.Bool.{cond};
 ghost use mathlib.Core.List.{List};
@@ -17,12 +19,15 @@ ghost use Rattle.arrays.specs.Links.{Held, Ending};
 ghost use Rattle.arrays.specs.Grown.{Given, GrownTree};
 ghost use Rattle.arrays.specs.ByNode.{ByNode, starts, listed};
 
+// The numbers that list the members of a tree by node.
+const MEMBER_LISTS: usize = STARTS + 2 * MOST_NODES;
+
 // A tree as it grew: whether its members join all nodes and, if so, its nodes in order, and each node's parent and parent link.
 pub struct Grown {
     pub joined: bool,
-    pub order: [u8; 256],
-    pub parents: [u8; 256],
-    pub uplinks: [u16; 256],
+    pub order: [u8; MOST_NODES],
+    pub parents: [u8; MOST_NODES],
+    pub uplinks: [u16; MOST_NODES],
 }
 
 // The other one of a link's two ends.
@@ -51,9 +56,9 @@ fn grow_queue(
         → ByNode (now (firsts .entry)) (now (seconds .entry)) (memberLinks net t) (starts (now (lists .entry))) (listed (now (lists .entry))) nodes
         → GrownTree net t (now (order .exit)) (now (parents .exit)) (now (uplinks .exit)) r) ⌝ }
 {
-    let head = &lists[0..257];
-    let list = &lists[257..];
-    let mut reached = [0u8; 256];
+    let head = &lists[0..STARTS];
+    let list = &lists[STARTS..];
+    let mut reached = [0u8; MOST_NODES];
     reached[0] = 1;
     order[0] = 0;
     let mut found = 1;
@@ -89,11 +94,11 @@ pub fn grow(firsts: &[u8], seconds: &[u8], members: &[u16], count: usize, nodes:
     ensures { λ r. ⌜ ((net : Network) (t : Tree) → Given net t (now (firsts .entry)) (now (seconds .entry)) (now (members .entry)) count nodes
         → GrownTree net t (r .order) (r .parents) (r .uplinks) (r .joined)) ⌝ }
 {
-    let mut lists = [0u16; 769];
+    let mut lists = [0u16; MEMBER_LISTS];
     list_by_node(&mut lists, firsts, seconds, members, count, nodes);
-    let mut order = [0u8; 256];
-    let mut parents = [0u8; 256];
-    let mut uplinks = [0u16; 256];
+    let mut order = [0u8; MOST_NODES];
+    let mut parents = [0u8; MOST_NODES];
+    let mut uplinks = [0u16; MOST_NODES];
     let joined = grow_queue(
         &mut order,
         &mut parents,
