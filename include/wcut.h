@@ -3,7 +3,7 @@
  * listed spanning tree, and whether it is provably the lightest cut of the whole network. docs/ENTRY.md has the layouts and the cost.
  *
  * Link with libmonitor.a, which is for x86-64 and its System V calling convention; it needs memset and memcpy. The entry keeps no state,
- * allocates nothing, and takes 45,056 bytes of stack.
+ * allocates nothing, and takes WCUT_STACK_BYTES of stack.
  */
 #ifndef WCUT_H
 #define WCUT_H
@@ -19,6 +19,7 @@ extern "C" {
 #define WCUT_SIDE_BYTES 32       /* the side area: node k is bit k % 8 of byte k / 8 */
 #define WCUT_REPORT_BYTES 24     /* the report area, laid out as below */
 #define WCUT_LONGEST_SHEET 30853 /* a sheet of more bytes is refused */
+#define WCUT_STACK_BYTES 45056   /* what a call takes of the stack: measured on longest sheets (tools/bench --stack), not proved */
 #define WCUT_MOST_NODES 256
 #define WCUT_MOST_LINKS 2048
 #define WCUT_MOST_TREES 32
@@ -36,19 +37,23 @@ extern "C" {
 #define WCUT_VERDICT_WHOLE 2      /* provably lightest of the whole network */
 #define WCUT_NO_SECOND 65535      /* the cut crosses one tree link only */
 
-/* What wcut_report returns: 0, or the first refusal that applies, in this order; within links and trees, record by record. */
+/*
+ * What wcut_report returns: 0, or the first refusal that applies, in this order; within links and trees, record by record. A trunk number
+ * is a field of its link. docs/REFUSALS.md has the same numbers, names and words; `make test` compares them. Units already sold give 2 only
+ * below 16 bytes, and 8 to every map byte above 7.
+ */
 #define WCUT_ACCEPTED 0
 #define WCUT_SHORT_SIDE 1    /* the side area has fewer than 32 bytes */
-#define WCUT_SHORT_REPORT 2  /* the report area has fewer than 24 bytes; units already sold take 16 */
+#define WCUT_SHORT_REPORT 2  /* the report area has fewer than 24 bytes */
 #define WCUT_SHORT_HEADER 3  /* the sheet has fewer than 5 bytes */
 #define WCUT_NODE_COUNT 4    /* the node count is below 2 or above 256 */
 #define WCUT_LINK_COUNT 5    /* the link count is below the node count less 1, or above 2,048 */
 #define WCUT_TREE_COUNT 6    /* the tree count is 0 or above 32 */
 #define WCUT_NO_MAP_BYTE 7   /* no map byte is left for a link */
-#define WCUT_MAP_BYTE 8      /* a map byte exceeds 15, or link 0's is neither 7 nor 15; units already sold take none above 7 */
-#define WCUT_CUT_OFF_FIELD 9 /* the sheet ends before the last byte of a field whose bit stands, trunk numbers included */
+#define WCUT_MAP_BYTE 8      /* a map byte exceeds 15, or link 0's map byte is neither 7 nor 15 */
+#define WCUT_CUT_OFF_FIELD 9 /* the sheet ends before the last byte of a field whose bit stands */
 #define WCUT_LINK_ENDS 10    /* an end is not below the node count, or both ends are equal */
-#define WCUT_LINK_WEIGHT 11  /* never returned: every 4-byte weight is allowed; units already sold refuse one above 1,000,000 */
+#define WCUT_LINK_WEIGHT 11  /* never: every 4-byte weight is allowed; units already sold refuse one above 1,000,000 */
 #define WCUT_CUT_OFF_TREE 12 /* the sheet ends inside or before a tree record */
 #define WCUT_STRAY_BIT 13    /* a link map has a bit set from the link count up */
 #define WCUT_MEMBER_COUNT 14 /* the ones in a link map are not the node count less 1 */
@@ -63,7 +68,7 @@ extern "C" {
  *   - each pointer is not null and points to as many bytes as the length behind it says, those of the areas writable;
  *   - the sheet and the two areas do not overlap;
  *   - nothing else reads or writes the areas, or writes the sheet, during the call;
- *   - the stack has room.
+ *   - the stack has room for WCUT_STACK_BYTES.
  * What the bytes say is no duty: every byte string is a sheet, accepted or refused.
  */
 uint32_t wcut_report(const uint8_t *sheet, size_t sheet_length,

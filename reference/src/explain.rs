@@ -11,7 +11,8 @@ use crate::sheet::{Place, Refusal, LEAST_NODES, MOST_LINKS, MOST_NODES, MOST_TRE
 /// How many nodes of a side a sentence names.
 const MOST_NAMED_NODES: usize = 12;
 
-/// Document 01's words for the refusal numbers, from 1 on, with those of request F-2 for 2 and 11 and of request F-9 for 8.
+/// What the refusal numbers mean, from 1 on, in the words of docs/REFUSALS.md and include/wcut.h. They are document 01's, with request
+/// F-2's for 2 and 11 and request F-9's for 8.
 const MEANINGS: [&str; 16] = [
     "the side area has fewer than 32 bytes",
     "the report area has fewer than 24 bytes",
@@ -23,7 +24,7 @@ const MEANINGS: [&str; 16] = [
     "a map byte exceeds 15, or link 0's map byte is neither 7 nor 15",
     "the sheet ends before the last byte of a field whose bit stands",
     "an end is not below the node count, or both ends are equal",
-    "a weight exceeds 1,000,000, which only units already sold refuse",
+    "never: every 4-byte weight is allowed; units already sold refuse one above 1,000,000",
     "the sheet ends inside or before a tree record",
     "a link map has a bit set from the link count up",
     "the ones in a link map are not the node count less 1",
@@ -31,7 +32,7 @@ const MEANINGS: [&str; 16] = [
     "bytes follow the last tree",
 ];
 
-/// What a refusal number means, in document 01's words; none for a number that is no refusal.
+/// What a refusal number means; none for a number that is no refusal.
 pub fn meaning(number: u32) -> Option<&'static str> {
     let place = usize::try_from(number).ok()?.checked_sub(1)?;
     MEANINGS.get(place).copied()

@@ -1,36 +1,15 @@
 //! The command `network` as a planner runs it: what it prints, and its exit status.
 
+mod command;
+
+use command::{finish, network, start};
 use reference::documented::CASE_A;
 use std::fs::File;
-use std::io::Write;
 use std::path::{Path, PathBuf};
-use std::process::{Child, Command, Stdio};
+use std::process::{Command, Stdio};
 
 /// Document 01's case A.
 const TRIANGLE: &str = "# A triangle\nnodes 3\nlink 0-1:3\nlink 1-2:2\nlink 0-2:4\ntree share 2 links 0 2\n";
-
-fn start(arguments: &[&str], output: Stdio) -> Child {
-    Command::new(env!("CARGO_BIN_EXE_network"))
-        .args(arguments)
-        .current_dir(env!("CARGO_TARGET_TMPDIR"))
-        .stdin(Stdio::piped())
-        .stdout(output)
-        .stderr(Stdio::piped())
-        .spawn()
-        .expect("the command starts")
-}
-
-/// Exit status, standard output and standard error of the command that was started, after this input.
-fn finish(mut child: Child, input: &[u8]) -> (Option<i32>, Vec<u8>, String) {
-    // a command that only prints its usage may have ended before it reads
-    let _ = child.stdin.take().expect("its standard input").write_all(input);
-    let output = child.wait_with_output().expect("the command ends");
-    (output.status.code(), output.stdout, String::from_utf8(output.stderr).expect("text"))
-}
-
-fn network(arguments: &[&str], input: &[u8]) -> (Option<i32>, Vec<u8>, String) {
-    finish(start(arguments, Stdio::piped()), input)
-}
 
 /// A program that takes its standard input and prints the given lines, or ends with a status. A shell writes it, so that no
 /// process of this test has it open when it is run.
