@@ -2,6 +2,18 @@
 
 cd "$(dirname "${BASH_SOURCE[0]}")/.."
 
+# Ends the script if a program that it names cannot be run.
+need() {
+    local program missing=''
+    for program in "$@"; do
+        type -P "$program" >/dev/null || missing+=${missing:+ and }$program
+    done
+    if [ -n "$missing" ]; then
+        echo "tools/${0##*/}: needs $missing, not found in PATH (README.md lists what is needed)" >&2
+        exit 1
+    fi
+}
+
 # Runs a command, and shows what it printed only if it fails.
 quietly() {
     local said
