@@ -1,5 +1,5 @@
-//! The refusal numbers, their constants and their words: the table of docs/REFUSALS.md, include/wcut.h and what the command `network`
-//! prints agree.
+//! The refusal numbers, their constants and their words: the table of docs/REFUSALS.md, include/wcut.h, the constants of the proved code
+//! and what the command `network` prints agree.
 
 mod command;
 
@@ -8,6 +8,7 @@ use reference::documented::{self, CASE_A};
 use reference::{explain, sheet};
 
 const HEADER: &str = include_str!("../../include/wcut.h");
+const CODE: &str = include_str!("../../crates/format/src/refusals.rt");
 const PAGE: &str = include_str!("../../docs/REFUSALS.md");
 
 /// No sheet leads to these numbers: two are of the areas, and every weight is allowed.
@@ -60,6 +61,21 @@ fn defined(line: &str) -> Refusal {
     };
     let case = comment.strip_suffix(" */").expect(line).to_string();
     Refusal { number: number.parse().expect(line), constant: constant.to_string(), case }
+}
+
+/// The constants of the code, each with the comment above it. There is none for 11, which is never given.
+fn code() -> Vec<Refusal> {
+    let (_, constants) = CODE.split_once("\n\n").expect("a comment on the file first");
+    constants.split("\n\n").map(commented).collect()
+}
+
+fn commented(lines: &str) -> Refusal {
+    let (comment, constant) = lines.trim_end().split_once('\n').expect(lines);
+    let words = comment.strip_prefix("// ").and_then(|rest| rest.strip_suffix('.')).expect(lines);
+    let (first, rest) = words.split_at(1);
+    let (name, number) = constant.strip_prefix("pub const ").and_then(|rest| rest.split_once(": u32 = ")).expect(lines);
+    let number = number.strip_suffix(';').expect(lines).parse().expect(lines);
+    Refusal { number, constant: format!("WCUT_{name}"), case: first.to_lowercase() + rest }
 }
 
 /// A sheet for each of the other numbers.
@@ -126,6 +142,13 @@ fn the_header_has_the_tables_constants_and_words() {
 }
 
 #[test]
+fn the_code_has_the_tables_constants_and_words() {
+    let table: Vec<Refusal> =
+        table().into_iter().map(|row| row.refusal).filter(|refusal| refusal.number != 11).collect();
+    assert_eq!(code(), table);
+}
+
+#[test]
 fn the_command_has_the_tables_words_for_each_number() {
     for Row { refusal: Refusal { number, case, .. }, .. } in table() {
         assert_eq!(explain::meaning(number), Some(&*case), "number {number}");
@@ -140,6 +163,7 @@ fn the_command_has_the_tables_words_for_each_number() {
         assert_eq!(words, format!("{case}\n"));
     }
 }
+
 
 #[test]
 fn the_command_has_the_tables_words_for_a_refused_text() {
