@@ -1,6 +1,7 @@
 -- A network's links as arrays hold them: first ends, second ends and weights, at the links' numbers. Assumes nothing.
 --   EndArrays es          es has two arrays of as many numbers as there may be links, for the first ends and the second ends of links
---   firstEnds es, secondEnds es   these two
+--   LinkArrays es ws      so it has, and ws has as many numbers for the weights
+--   firstEnds es, secondEnds es   the two arrays of ends
 --   Ending fs ss n k      link k has its ends in the arrays, and they are nodes, of which there are n
 --   EndsKnown es n m      so it is of the first m links
 --   linksOf m fs ss ws    the m links whose first ends, second ends and weights stand in the arrays
@@ -22,6 +23,10 @@ pub record EndArrays (ends : List (List ℕ)) : Type 0 where
   pub both : length ends ≡ 2
   pub firsts : length (part ends 0) ≡ mostLinks
   pub seconds : length (part ends 1) ≡ mostLinks
+
+pub record LinkArrays (ends : List (List ℕ)) (weights : List ℕ) : Type 0 where
+  pub ends-room : EndArrays ends
+  pub weights-room : length weights ≡ mostLinks
 
 abbrev pub firstEnds : List (List ℕ) → List ℕ
 firstEnds ends = part ends 0

@@ -2,15 +2,18 @@
 --   treesFrom net k bs      the trees of the k records at the front of bs, each at its place behind the one before
 --   networkAt s es ws c p   the network that the arrays, of ends and of weights, and the tree records from position p of s on hold, with
 --                           the counts c
-use Prim.Native.Nat.{ℕ, _*_}
+--   recordAt c p i          where the record of tree i stands, that of tree 0 standing at p
+--   SheetHeld f s es ws c p the records of all trees stand in s from p on, and the network that they and the arrays hold is one that a
+--                           sheet of the format f gives
+use Prim.Native.Nat.{ℕ, _+_, _*_, _≤_}
 use mathlib.Core.List.{List, []}
-use lib.ListN.{drop}
+use lib.ListN.{length, drop}
 use Rattle.cuts.specs.Sums.{table}
 use Rattle.cuts.specs.Network.{Link, Tree, Network, linkCount}
 use Rattle.sheet.specs.Bytes.{Bytes}
-use Rattle.sheet.specs.Sheet.{Counts, treeLength, treeIn, network}
+use Rattle.sheet.specs.Sheet.{Format, Counts, treeLength, treeIn, network, Accepted}
 use Rattle.arrays.specs.Lists.{part}
-use Rattle.arrays.specs.Links.{linksOf}
+use Rattle.arrays.specs.Links.{LinkArrays, linksOf}
 
 unfoldable pub treesFrom : Network → ℕ → Bytes → List Tree
 unfolding table treeIn
@@ -20,3 +23,11 @@ abbrev pub networkAt : Bytes → List (List ℕ) → List ℕ → Counts → ℕ
 networkAt s ends ws c p =
     let links : List Link = linksOf (c .links) (part ends 0) (part ends 1) ws in
     network (c .nodes) links (treesFrom (network (c .nodes) links []) (c .trees) (drop p s))
+
+abbrev pub recordAt : Counts → ℕ → ℕ → ℕ
+recordAt c p i = p + i * treeLength (c .links)
+
+pub record SheetHeld (f : Format) (s : Bytes) (ends : List (List ℕ)) (ws : List ℕ) (c : Counts) (p : ℕ) : Type 0 where
+  pub inside : recordAt c p (c .trees) ≤ length s
+  pub accepted : Accepted f (networkAt s ends ws c p)
+  pub arrays : LinkArrays ends ws

@@ -29,6 +29,7 @@ use Rattle.cuts.proofs.CountedLaws.{counted-counts, counts-packed, coun
 use Rattle.cuts.proofs.Packing.{packing}
 use Rattle.cuts.proofs.Least.{Order, by-key, First, first-in, first-least, first-of}
 use Rattle.cuts.proofs.ThenLaws.{then-order, by-number-of, by-number-not}
+use Rattle.cuts.proofs.Walks.{reaches, paths}
 use Rattle.cuts.proofs.Handles.{Genuine, candidate-in, candidate-of, candidates-earlier}
 
 -- ---- sizes
@@ -323,4 +324,6 @@ module _ (net : Network) (v : Sound net) where
       unmarked = verdict-else (answer r net .floor) (answer r net .best .weight);
       listed = first-in (reported-first (r .rank));
       first = reported-precedes (r .rank);
+      paths = λ i b. paths (v .spanning i b);
+      reaches = reaches net (v .linked);
     }

@@ -4,10 +4,12 @@
 --   Belongs net t s   the side s belongs to one single link or pair of the tree t
 --   Demand2 net a     the answer a agrees with the definition of a cut that crosses at most two tree links, and conversely
 --   Demand3 n net a   the answer a reports a lightest cut, its floor and its mark, where trees count for the floor by the rule n
---   Owed r net a      what is owed of an answer by the rules r: both demands, and what is said of the choice among candidates
+--   Owed r net a      what is owed of an answer by the rules r: both demands, what is said of the choice among
+--                     candidates, and what the definitions mean in terms of walks and tree paths
 use Prim.Native.Nat.{ℕ, _*_, _≤_, _<_, min}
 use mathlib.Core.Path.{_≡_}
 use mathlib.Core.Logic.{_⊎_, _↔_}
+use mathlib.Core.Bool.{Bool}
 use mathlib.Core.List.{List, List·Memᴰ}
 use lib.ListN.{length}
 use Rattle.cuts.specs.Network.{Tree, Network, treeAt}
@@ -15,6 +17,7 @@ use Rattle.cuts.specs.Cut.{Side, Respects, Proper, Rootless, crosses, cu
 use Rattle.cuts.specs.Tree.{Member}
 use Rattle.cuts.specs.Candidate.{Handle, Candidate, Fits, names, sideOf, weightOf, candidates, Precedes}
 use Rattle.cuts.specs.Bound.{Counting, Counts, shares}
+use Rattle.cuts.specs.Paths.{Reaches, Paths}
 use Rattle.cuts.specs.Answer.{Rules, Answer, certified, treesOnly}
 
 pub record Belongs (net : Network) (t : Tree) (s : Side) : Type 0 where
@@ -73,3 +76,7 @@ pub record Owed (r : Rules) (net : Network) (a : Answer) : Type 0 where
   -- before pair, second link"
   pub listed : List·Memᴰ (a .best) (candidates net)
   pub first : (d : Candidate) → List·Memᴰ d (candidates net) → (d ≡ a .best) ⊎ Precedes (r .rank) (a .best) d
+  -- the definitions mean what document 01 says by tree paths and joining: "nodes whose tree path to node 0 uses it", "the links whose
+  -- ends are joined by a tree path using both", "join every node to node 0"
+  pub paths : (i : ℕ) → i < length (net .trees) → Paths net (treeAt net i)
+  pub reaches : (chosen : List Bool) → Reaches net chosen

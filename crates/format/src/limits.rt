@@ -1,4 +1,4 @@
-// Document 01's limits of a sheet.
+// Document 01's limits of a sheet, and the lengths of its parts and of the areas.
 
 pub const HEADER_LENGTH: usize = 5;
 
@@ -9,3 +9,9 @@ pub const MOST_NODES: usize = 256;
 pub const MOST_LINKS: usize = 2048;
 
 pub const MOST_TREES: usize = 32;
+
+// The bytes of a side area that are written.
+pub const SIDE_LENGTH: usize = 32;
+
+// The bytes of a report area that are written.
+pub const REPORT_LENGTH: usize = 24;

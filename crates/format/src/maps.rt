@@ -3,9 +3,12 @@ ghost use mathlib.Core.Path.{_≡_};
 ghost use mathlib.Core.Bool.{_&&_};
 ghost use Prim.Native.Nat.{_*_, _≤_, _<_};
 ghost use lib.Dec.{leb};
-ghost use lib.ListN.{length, take};
-ghost use Rattle.cuts.specs.Sums.{countTo, anyTo, select};
+ghost use lib.ListN.{length};
+ghost use Rattle.cuts.specs.Limits.{mostLinks};
+ghost use Rattle.cuts.specs.Sums.{countTo, anyTo};
 ghost use Rattle.sheet.specs.Bytes.{mapBit};
+ghost use Rattle.sheet.specs.Sheet.{mapLength};
+ghost use Rattle.format.specs.Maps.{MembersFit, MembersListed};
 
 // Whether bit k is set.
 pub fn bit_set(map: &[u8], k: usize) -> bool
@@ -17,7 +20,7 @@ pub fn bit_set(map: &[u8], k: usize) -> bool
 
 // Whether a bit is set from the link count up.
 pub fn stray_bit(map: &[u8], links: usize) -> bool
-    requires { ⌜ length (now map) ≤ 256 ⌝ }
+    requires { ⌜ length (now map) ≤ mapLength mostLinks ⌝ }
     ensures { λ r. ⌜ r ≡ anyTo (8 * length (now (map .entry))) (λ k. leb links k && mapBit (now (map .entry)) k) ⌝ }
 {
     let mut k = links;
@@ -32,7 +35,7 @@ pub fn stray_bit(map: &[u8], links: usize) -> bool
 
 // How many bits are set.
 pub fn ones(map: &[u8]) -> usize
-    requires { ⌜ length (now map) ≤ 256 ⌝ }
+    requires { ⌜ length (now map) ≤ mapLength mostLinks ⌝ }
     ensures { λ r. ⌜ r ≡ countTo (8 * length (now (map .entry))) (mapBit (now (map .entry))) ⌝ }
 {
     let mut sum = 0;
@@ -46,10 +49,9 @@ pub fn ones(map: &[u8]) -> usize
 
 // Lists the links below the link count whose bits are set, rising, and answers how many they are. Every link is written behind those listed,
 // and the next one over it where its bit is not set, since a store that waits for no bit is the quicker one.
-pub fn list_members(map: &[u8], links: usize, members: &mut [u16]) -> usize
-    requires { ⌜ (links ≤ 8 * length (now map)) × (links ≤ 2048) ⌝ }
-    requires { ⌜ countTo links (mapBit (now map)) < length (now members) ⌝ }
-    ensures { λ r. ⌜ (r ≡ countTo links (mapBit (now (map .entry)))) × (take r (now (members .exit)) ≡ select links (mapBit (now (map .entry)))) ⌝ }
+pub fn list_members(members: &mut [u16], map: &[u8], links: usize) -> usize
+    requires { ⌜ MembersFit (now map) links (now members) ⌝ }
+    ensures { λ r. ⌜ MembersListed (now (map .entry)) links (now (members .exit)) r ⌝ }
 {
     let mut found = 0;
     let mut k = 0;

@@ -1,14 +1,15 @@
 // Numbers in bytes, lowest byte first.
 ghost use mathlib.Core.Path.{_≡_};
 ghost use mathlib.Core.List.{_++_};
-ghost use Prim.Native.Nat.{_+_, _≤_, _<_};
+ghost use Prim.Native.Nat.{_+_, _≤_};
 ghost use lib.ListN.{length, take, drop};
 ghost use Rattle.sheet.specs.Bytes.{number, bytesOf};
+ghost use Rattle.format.specs.Numbers.{twoBytes, Is};
 
 // The number in the two bytes at a position.
 pub fn two(s: &[u8], at: usize) -> usize
     requires { ⌜ at + 2 ≤ length (now s) ⌝ }
-    ensures { λ r. ⌜ (r ≡ number 2 (drop at (now (s .entry)))) × (r < 65536) ⌝ }
+    ensures { λ r. ⌜ Is twoBytes (number 2 (drop at (now (s .entry)))) r ⌝ }
 {
     wide(s[at]) + 256 * wide(s[at + 1])
 }
@@ -30,7 +31,7 @@ pub fn eight(s: &[u8], at: usize) -> u64
 }
 
 fn wide(b: u8) -> usize
-    ensures { λ r. ⌜ (r ≡ b) × (r < 256) ⌝ }
+    ensures { λ r. ⌜ Is 256 b r ⌝ }
 {
     b as usize
 }
@@ -38,7 +39,8 @@ fn wide(b: u8) -> usize
 // Writes a number into the two bytes at a position.
 pub fn put_two(area: &mut [u8], at: usize, v: u16)
     requires { ⌜ at + 2 ≤ length (now area) ⌝ }
-    ensures { λ _. ⌜ now (area .exit) ≡ take at (now (area .entry)) ++ bytesOf 2 v ++ drop (at + 2) (now (area .entry)) ⌝ }
+    ensures { λ _. ⌜ now (area .exit)
+        ≡ take at (now (area .entry)) ++ bytesOf 2 v ++ drop (at + 2) (now (area .entry)) ⌝ }
 {
     area[at] = (v % 256) as u8;
     area[at + 1] = (v / 256) as u8;
@@ -47,7 +49,8 @@ pub fn put_two(area: &mut [u8], at: usize, v: u16)
 // Writes a number into the four bytes at a position.
 pub fn put_four(area: &mut [u8], at: usize, v: u32)
     requires { ⌜ at + 4 ≤ length (now area) ⌝ }
-    ensures { λ _. ⌜ now (area .exit) ≡ take at (now (area .entry)) ++ bytesOf 4 v ++ drop (at + 4) (now (area .entry)) ⌝ }
+    ensures { λ _. ⌜ now (area .exit)
+        ≡ take at (now (area .entry)) ++ bytesOf 4 v ++ drop (at + 4) (now (area .entry)) ⌝ }
 {
     put_two(area, at, (v % 65536) as u16);
     put_two(area, at + 2, (v / 65536) as u16);
@@ -56,7 +59,8 @@ pub fn put_four(area: &mut [u8], at: usize, v: u32)
 // Writes a number into the eight bytes at a position.
 pub fn put_eight(area: &mut [u8], at: usize, v: u64)
     requires { ⌜ at + 8 ≤ length (now area) ⌝ }
-    ensures { λ _. ⌜ now (area .exit) ≡ take at (now (area .entry)) ++ bytesOf 8 v ++ drop (at + 8) (now (area .entry)) ⌝ }
+    ensures { λ _. ⌜ now (area .exit)
+        ≡ take at (now (area .entry)) ++ bytesOf 8 v ++ drop (at + 8) (now (area .entry)) ⌝ }
 {
     put_four(area, at, (v % 4294967296) as u32);
     put_four(area, at + 4, (v / 4294967296) as u32);

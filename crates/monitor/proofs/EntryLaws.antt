@@ -9,11 +9,12 @@ use borrow.Author.Tests.{lt-ltb, le-ltb}
 use Rattle.cuts.specs.Network.{Network}
 use Rattle.cuts.specs.Demands.{Owed}
 use Rattle.sheet.specs.Bytes.{Bytes}
-use Rattle.sheet.specs.Reading.{firstFailing, accepted, refused, numberOf}
+use Rattle.sheet.specs.Reading.{firstFailing, accepted, refused}
 use Rattle.sheet.specs.Sheet.{Format, decode}
-use Rattle.sheet.specs.Areas.{reportLength, sideAfter, reportAfter, answerRead}
+use Rattle.sheet.specs.Areas.{reportLength, sideAfter, reportAfter, answerRead, sideLeft, reportLeft}
 use Rattle.sheet.proofs.Acceptance.{decode-zero}
-use Rattle.monitor.specs.Entry.{areaChecks, reading, sideLeft, reportLeft, Reported}
+use Rattle.op_report.specs.Areas.{SheetReported}
+use Rattle.monitor.specs.Entry.{areaChecks, reading, Reported}
 
 module _ (f : Format) (sheet side report : Bytes) where
   refused-reported : (n : ℕ) → 0 < n → reading f sheet side report ≡ refused n → Reported f sheet side report side report n
@@ -35,14 +36,13 @@ module _ (f : Format) (sheet side report : Bytes) where
 
       -- where what is owed of the answer is owed of the bytes written
       pub sheet-decides : ((net : Network) → decode f sheet ≡ accepted net [] → Owed (f .rules) net (answerRead f (net .nodes) (sideAfter f net side) (reportAfter f net report)))
-          → (side′ report′ : Bytes) (n : ℕ) → n ≡ numberOf (decode f sheet) → side′ ≡ sideLeft f side (decode f sheet) → report′ ≡ reportLeft f report (decode f sheet)
-          → Reported f sheet side report side′ report′ n
-      sheet-decides owed side′ report′ n e s r = record {
-        number = rw reading-is e;
-        side-is = rw reading-is s;
-        report-is = rw reading-is r;
-        owed = λ z. let read = decode-zero f sheet (sym e ∙ z) in
-            let left : side′ ≡ sideAfter f (read .0) side = s ∙ ap (sideLeft f side) (read .1) in
-            let right : report′ ≡ reportAfter f (read .0) report = r ∙ ap (reportLeft f report) (read .1) in
+          → {side′ report′ : Bytes} {n : ℕ} → SheetReported f sheet side report side′ report′ n → Reported f sheet side report side′ report′ n
+      sheet-decides owed {side′} {report′} w = record {
+        number = rw reading-is (w .number);
+        side-is = rw reading-is (w .side-is);
+        report-is = rw reading-is (w .report-is);
+        owed = λ z. let read = decode-zero f sheet (sym (w .number) ∙ z) in
+            let left : side′ ≡ sideAfter f (read .0) side = w .side-is ∙ ap (sideLeft f side) (read .1) in
+            let right : report′ ≡ reportAfter f (read .0) report = w .report-is ∙ ap (reportLeft f report) (read .1) in
             (read .0, read .1, rw (left, right) (owed (read .0) (read .1)));
       }

@@ -10,13 +10,13 @@ use Rattle.cuts.specs.Network.{Network}
 use Rattle.sheet.specs.Bytes.{Bytes}
 use Rattle.sheet.specs.Reading.{firstFailing, Reading, accepted, refused, unless, numberOf}
 use Rattle.sheet.specs.Sheet.{tolerant, trunked, current, decode}
-use Rattle.sheet.specs.Areas.{sideBytes, reportBytes, answerRead}
-use Rattle.sheet.specs.Plain.{marked, cutOff, plain}
+use Rattle.sheet.specs.Areas.{sideBytes, reportBytes, answerRead, sideLeft, reportLeft}
+use Rattle.sheet.proofs.Plain.{marked, cutOff, plain}
 use Rattle.sheet.proofs.ReadingLaws.{unless-accepted}
 use Rattle.sheet.proofs.Acceptance.{decode-accepted}
 use Rattle.sheet.proofs.PlainLaws.{plain-same}
 use Rattle.sheet.proofs.Sold.{reads-as-trunked, reads-before, report-ranked}
-use Rattle.monitor.specs.Entry.{areaChecks, reading, sideLeft, reportLeft, Reported}
+use Rattle.monitor.specs.Entry.{areaChecks, reading, Reported}
 
 module _ (sheet side report side′ report′ : Bytes) (n : ℕ) where
   -- "and answers as if the bit and field were not there"

@@ -1,8 +1,6 @@
 -- What the entry returns and leaves in the two areas, for every sheet and every pair of areas, by the format. Assumes nothing.
 --   areaChecks f side report      refusals 1 and 2, of the areas' lengths
 --   reading f sheet side report   the network of the sheet, or the first refusal: 1, 2, or the sheet's
---   sideLeft f old r              a side area that held `old`, where r was the reading: the answer is written if a network was read
---   reportLeft f old r            the same of a report area
 --   Reported f ..                 all that the entry promises, where the areas held `side` and `report`, hold side′ and report′
 --                                 afterwards, and n is returned
 use Prim.Native.Nat.{ℕ}
@@ -13,9 +11,9 @@ use lib.Dec.{ltb}
 use Rattle.cuts.specs.Network.{Network}
 use Rattle.cuts.specs.Demands.{Owed}
 use Rattle.sheet.specs.Bytes.{Bytes}
-use Rattle.sheet.specs.Reading.{Check, check, firstFailing, Reading, accepted, refused, unless, numberOf}
+use Rattle.sheet.specs.Reading.{Check, check, firstFailing, Reading, accepted, unless, numberOf}
 use Rattle.sheet.specs.Sheet.{Format, decode}
-use Rattle.sheet.specs.Areas.{sideLength, reportLength, sideAfter, reportAfter, answerRead}
+use Rattle.sheet.specs.Areas.{sideLength, reportLength, sideLeft, reportLeft, answerRead}
 
 unfoldable pub areaChecks : Format → Bytes → Bytes → List Check
 areaChecks f side report = check 1 (ltb (length side) sideLength) ∷ check 2 (ltb (length report) (reportLength f)) ∷ []
@@ -23,14 +21,6 @@ areaChecks f side report = check 1 (ltb (length side) sideLength) ∷ check 2 (l
 unfoldable pub reading : Format → Bytes → Bytes → Bytes → Reading Network
 unfolding firstFailing areaChecks decode
 reading f sheet side report = unless (firstFailing (areaChecks f side report)) (decode f sheet)
-
-abbrev pub sideLeft : Format → Bytes → Reading Network → Bytes
-sideLeft f old (accepted net rest) = sideAfter f net old
-sideLeft f old (refused n) = old
-
-abbrev pub reportLeft : Format → Bytes → Reading Network → Bytes
-reportLeft f old (accepted net rest) = reportAfter f net old
-reportLeft f old (refused n) = old
 
 pub record Reported (f : Format) (sheet side report side′ report′ : Bytes) (n : ℕ) : Type 0 where
   -- demand 1: each refusal in just the situation and order listed for it

@@ -9,14 +9,14 @@ ghost use Rattle.op_trunks.specs.Numbers.{TrunksRead};
 
 // Reads a sheet, writes the trunk number of each link to the front of the area, and returns 0; or returns the number of the first
 // refusal, which is the panel reader's, and leaves the area as it was.
-pub fn read_trunks(sheet: &[u8], numbers: &mut [u16; MOST_LINKS]) -> u32
+pub fn read_trunks(numbers: &mut [u16; MOST_LINKS], sheet: &[u8]) -> u32
     ensures { λ r. ⌜ TrunksRead current (now (sheet .entry)) (now (numbers .entry)) (now (numbers .exit)) r ⌝ }
 {
-    let mut ends = [[0u8; 2048]; 2];
-    let mut weights = [0u32; 2048];
-    match read_sheet(sheet, &mut ends, &mut weights) {
+    let mut ends = [[0u8; MOST_LINKS]; 2];
+    let mut weights = [0u32; MOST_LINKS];
+    match read_sheet(&mut ends, &mut weights, sheet) {
         Outcome::Read(c, _) => {
-            trunk_numbers(sheet, HEADER_LENGTH, c.links, numbers);
+            trunk_numbers(numbers, sheet, HEADER_LENGTH, c.links);
             0
         }
         Outcome::Refused(n) => n,

@@ -1,7 +1,7 @@
 -- A tree's share added to the loads of its members, link by link, and the trees of a sheet counted one after another, over plain lists:
 -- while no tree has overloaded a link the loads are those of the trees so far, none past its link's weight; the first tree that would
 -- overload one ends the run, which then is the longest. Assumes nothing.
-use Prim.Native.Nat.{ℕ, suc, _+_, _*_, _≤_, _<_}
+use Prim.Native.Nat.{ℕ, suc, _+_, _-_, _*_, _≤_, _<_}
 use mathlib.Core.Path.{_≡_, refl, sym, ap, _∙_, subst}
 use mathlib.Core.Logic.{_⊎_, inl, inr}
 use mathlib.Core.Bool.{Bool, true, false, not, and-false, and-eq-true-iff}
@@ -16,6 +16,7 @@ use lib.Dec.{ltb}
 use borrow.Author.Tests.{ltb-true, lt-ltb, le-ltb, not-true, not-false}
 use Rattle.cuts.specs.Sums.{only, anyTo, table}
 use Rattle.cuts.specs.Network.{Tree, Network, linkCount}
+use Rattle.cuts.specs.Limits.{mostLinks, mostTrees, fourBytes}
 use Rattle.cuts.specs.Bound.{load, shares, Overloads, LongestRun, longestRun, counted}
 use Rattle.cuts.proofs.FlagLaws.{clash, truth}
 use Rattle.cuts.proofs.SumLaws.{all-suc, only-none, anyTo-some, anyTo-at, table-at, table-length, take-table}
@@ -27,7 +28,7 @@ use Rattle.sheet.specs.Bytes.{Bytes, number, mapBit}
 use Rattle.sheet.specs.Sheet.{mapLength, treeLength, treeIn}
 use Rattle.arrays.specs.Records.{treesFrom}
 use Rattle.read_sheet.proofs.TreeLaws.{members-at, treesFrom-more, record-inside}
-use Rattle.packing.specs.Loads.{overfull, ShareAdded, mostShares, Totals, Counted}
+use Rattle.packing.specs.Loads.{overfull, ShareAdded, mostShares, Totals, TreesCounted}
 
 -- ---- one tree's share
 
@@ -106,13 +107,13 @@ module _ (net : Network) (s map : Bytes) (at place i : ℕ) (here : place ≡ at
 -- and no load is past its link's weight; no share is above 2^32 - 1
 pub record Loaded (s : Bytes) (ws : List ℕ) (at links : ℕ) (loads : List ℕ) (sum place i : ℕ) : Type 0 where
   pub placed : place ≡ at + i * treeLength links
-  pub sized : length loads ≡ 2048
+  pub sized : length loads ≡ mostLinks
   pub carried : (k : ℕ) → k < links → entry loads k ≤ entry ws k
-  pub small : sum ≤ i * 4_294_967_295
+  pub small : sum ≤ i * (fourBytes - 1)
   pub bears : (net : Network) → linkCount net ≡ links → (k : ℕ) → k < links → entry loads k ≡ load (treesFrom net i (drop at s)) k
   pub adds : (net : Network) → linkCount net ≡ links → sum ≡ shares (treesFrom net i (drop at s))
 
-pub loaded-none : (s : Bytes) (ws : List ℕ) (at links n : ℕ) → n ≡ 2048 → links ≤ n → Loaded s ws at links (replicate n 0) 0 at 0
+pub loaded-none : (s : Bytes) (ws : List ℕ) (at links n : ℕ) → n ≡ mostLinks → links ≤ n → Loaded s ws at links (replicate n 0) 0 at 0
 unfolding treesFrom table load shares
 loaded-none s ws at links n e few = record {
   placed = rw zero-mul (omega arith);
@@ -142,7 +143,7 @@ module _ {s : Bytes} {ws : List ℕ} {at links : ℕ} {loads : List ℕ} {sum pl
     bears-more net n k b = rw (l .bears net n k b, is) (sym (load-next net s map at place i (rw n (l .placed)) (rw n slice) (rw n whole) k (rw n b)))
 
     -- the next tree counts
-    loaded-more : share < 4_294_967_296 → anyTo links (overfull map share ws loads) ≡ false → (next : List ℕ) → ShareAdded map share loads next links
+    loaded-more : share < fourBytes → anyTo links (overfull map share ws loads) ≡ false → (next : List ℕ) → ShareAdded map share loads next links
         → length next ≡ length loads → (end : ℕ) → end ≡ place + treeLength links → Loaded s ws at links next (sum + share) end (i + 1)
     loaded-more low none next a same end e = record {
       placed = rw (add-one, suc-mul) (let p = l .placed in omega arith);
@@ -231,15 +232,11 @@ module _ {s : Bytes} {ws : List ℕ} {at links trees : ℕ} {loads : List ℕ} {
   still-going (going l e b) m = (l, e)
   still-going (ended p l o b e) m = absurd (omega arith)
 
-  pub sum-small : Progress s ws at links trees loads sum place stop i → trees ≤ 32 → sum ≤ mostShares
+  pub sum-small : Progress s ws at links trees loads sum place stop i → trees ≤ mostTrees → sum ≤ mostShares
   sum-small (going l e b) m = let a = l .small in omega arith
   sum-small (ended p l o b e) m = let a = l .small in omega arith
 
-  pub loads-sized : Progress s ws at links trees loads sum place stop i → length loads ≡ 2048
-  loads-sized (going l e b) = l .sized
-  loads-sized (ended p l o b e) = l .sized
-
-  pub all-counted : Progress s ws at links trees loads sum place stop i → stop ≤ i → trees ≤ 32 → Counted s at links trees ws loads sum
+  pub all-counted : Progress s ws at links trees loads sum place stop i → stop ≤ i → trees ≤ mostTrees → TreesCounted s at links trees ws loads sum
   all-counted p m few = record { totals = by-case p; most = sum-small p few }
     where
       by-case : Progress s ws at links trees loads sum place stop i → (net : Network) → Weighed net ws links → Totals net (treesFrom net trees (drop at s)) links loads sum
@@ -251,7 +248,7 @@ module _ {s : Bytes} {ws : List ℕ} {at links : ℕ} {loads : List ℕ} {sum pl
     {map : Bytes} {share : ℕ} (slice : map ≡ take (mapLength links) (drop (place + 4) s)) (whole : place + treeLength links ≤ length s)
     (is : share ≡ number 4 (drop place s)) {counts : Bool} (tested : counts ≡ not (anyTo links (overfull map share ws loads)))
     {next : List ℕ} (a : ShareAdded map (only counts share) loads next links) (same : length next ≡ length loads) {trees : ℕ} (more : i < trees) (end : ℕ) where
-  pub turn-counts : counts ≡ true → share < 4_294_967_296 → end ≡ place + treeLength links → {stop : ℕ} → stop ≡ trees
+  pub turn-counts : counts ≡ true → share < fourBytes → end ≡ place + treeLength links → {stop : ℕ} → stop ≡ trees
       → Progress s ws at links trees next (sum + share) end stop (i + 1)
   turn-counts h low e f = going (loaded-more l slice whole is low (not-true _ (sym tested ∙ h)) next (rw h at a) same end e) f (omega arith)
 

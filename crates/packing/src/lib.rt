@@ -1,23 +1,27 @@
 // The packing bound: which trees count, the load that they put on each link, and the floor and the verdict that follow.
+use format::limits::MOST_LINKS;
 use format::maps::bit_set;
 use format::numbers::four;
+use read_header::Counts;
+use read_sheet::tree_records::SHARE_LENGTH;
+use read_sheet::tree_records::map_length;
 ghost use mathlib.Core.Path.{_≡_};
-ghost use mathlib.Core.Bool.{not};
 ghost use Prim.Native.Nat.{_*_, _≤_, min};
-ghost use lib.ListN.{drop, replicate};
-ghost use Rattle.cuts.specs.Sums.{only, anyTo};
+ghost use lib.ListN.{drop};
+ghost use Rattle.cuts.specs.Sums.{anyTo};
 ghost use Rattle.cuts.specs.Network.{Network};
 ghost use Rattle.cuts.specs.Bound.{counted, floor};
 ghost use Rattle.cuts.specs.Answer.{verdictOf};
 ghost use Rattle.arrays.specs.Links.{Weighed};
 ghost use Rattle.sheet.specs.Sheet.{current};
 ghost use Rattle.arrays.specs.Records.{treesFrom};
-ghost use Rattle.packing.specs.Loads.{Records, Loading, overfull, Roomy, ShareAdded, mostShares, Counted};
+ghost use Rattle.packing.specs.Loads.{TreesThere, Loading, overfull, Roomy, ShareAdded, TreeTested, mostShares, Unloaded, TreesCounted};
 
 // Whether a tree's share would load one of its members past the link's weight.
-fn overloads(loads: &[u32], weights: &[u32], map: &[u8], links: usize, share: u32) -> bool
+fn overloads(map: &[u8], links: usize, weights: &[u32], loads: &[u32], share: u32) -> bool
     requires { ⌜ Loading links (now map) (now weights) (now loads) ⌝ }
-    ensures { λ r. ⌜ r ≡ anyTo links (overfull (now (map .entry)) share (now (weights .entry)) (now (loads .entry))) ⌝ }
+    ensures { λ r. ⌜ r ≡ anyTo links
+        (overfull (now (map .entry)) share (now (weights .entry)) (now (loads .entry))) ⌝ }
 {
     let mut k = 0;
     while k < links {
@@ -47,12 +51,12 @@ fn add_share(loads: &mut [u32], map: &[u8], links: usize, share: u32)
 
 // Counts a tree, unless it would load a link past its weight: answers whether it counts, and if so adds its share to the loads of its
 // members; else the loads are as they were.
-fn count_tree(loads: &mut [u32], weights: &[u32], map: &[u8], links: usize, share: u32) -> bool
+fn count_tree(loads: &mut [u32], map: &[u8], links: usize, weights: &[u32], share: u32) -> bool
     requires { ⌜ Loading links (now map) (now weights) (now loads) ⌝ }
-    ensures { λ r. ⌜ r ≡ not (anyTo links (overfull (now (map .entry)) share (now (weights .entry)) (now (loads .entry)))) ⌝ }
-    ensures { λ r. ⌜ ShareAdded (now (map .entry)) (only r share) (now (loads .entry)) (now (loads .exit)) links ⌝ }
+    ensures { λ r. ⌜ TreeTested (now (map .entry)) links (now (weights .entry)) share
+        (now (loads .entry)) (now (loads .exit)) r ⌝ }
 {
-    let counts = !overloads(loads, weights, map, links, share);
+    let counts = !overloads(map, links, weights, loads, share);
     if counts {
         add_share(loads, map, links, share);
     }
@@ -62,26 +66,28 @@ fn count_tree(loads: &mut [u32], weights: &[u32], map: &[u8], links: usize, shar
 // Counts trees, of the tree records at a position, up to the first that would load a link past its weight. No link has any load yet;
 // afterwards the links have the loads of the trees that count. Answers the sum of their shares.
 fn count_trees(
+    loads: &mut [u32; MOST_LINKS],
     s: &[u8],
     at: usize,
-    links: usize,
-    trees: usize,
-    weights: &[u32],
-    loads: &mut [u32],
+    c: Counts,
+    weights: &[u32; MOST_LINKS],
 ) -> u64
-    requires { ⌜ Records (now s) at links trees (now weights) × (now loads ≡ replicate 2048 0) ⌝ }
-    ensures { λ r. ⌜ Counted (now (s .entry)) at links trees (now (weights .entry)) (now (loads .exit)) r ⌝ }
+    requires { ⌜ Unloaded (now loads) (now s) at (c .links) (c .trees) ⌝ }
+    ensures { λ r. ⌜ TreesCounted (now (s .entry)) at (c .links) (c .trees)
+        (now (weights .entry)) (now (loads .exit)) r ⌝ }
 {
-    let size = (links + 7) / 8;
+    let links = c.links;
+    let trees = c.trees;
+    let size = map_length(links);
     let mut sum: u64 = 0;
     let mut place = at;
     let mut stop = trees;
     let mut i = 0;
     while i < stop {
         let share = four(s, place);
-        let map_at = place + 4;
+        let map_at = place + SHARE_LENGTH;
         let end = map_at + size;
-        if count_tree(loads, weights, &s[map_at..end], links, share) {
+        if count_tree(loads, &s[map_at..end], links, weights, share) {
             sum += share as u64;
         } else {
             stop = i;
@@ -93,7 +99,7 @@ fn count_trees(
 }
 
 // The packing bound, held to the weight found: the lesser of it and three times the shares.
-fn floor(shares: u64, weight: u64) -> u64
+fn floor_from(shares: u64, weight: u64) -> u64
     requires { ⌜ shares ≤ mostShares ⌝ }
     ensures { λ r. ⌜ r ≡ min weight (3 * shares) ⌝ }
 {
@@ -102,14 +108,15 @@ fn floor(shares: u64, weight: u64) -> u64
 }
 
 // The floor that the tree records at a position give, where `weight` is that of the cut found.
-pub fn bound(s: &[u8], at: usize, links: usize, trees: usize, weights: &[u32], weight: u64) -> u64
-    requires { ⌜ Records (now s) at links trees (now weights) ⌝ }
-    ensures { λ r. ⌜ ((net : Network) → Weighed net (now (weights .entry)) links
-        → r ≡ floor (counted (current .rules .counting) net (treesFrom net trees (drop at (now (s .entry))))) weight) ⌝ }
+pub fn floor_of(s: &[u8], at: usize, c: Counts, weights: &[u32; MOST_LINKS], weight: u64) -> u64
+    requires { ⌜ TreesThere (now s) at (c .links) (c .trees) ⌝ }
+    ensures { λ r. ⌜ ((net : Network) → Weighed net (now (weights .entry)) (c .links)
+        → r ≡ floor (counted (current .rules .counting) net
+        (treesFrom net (c .trees) (drop at (now (s .entry))))) weight) ⌝ }
 {
-    let mut loads = [0u32; 2048];
-    let shares = count_trees(s, at, links, trees, weights, &mut loads);
-    floor(shares, weight)
+    let mut loads = [0u32; MOST_LINKS];
+    let shares = count_trees(&mut loads, s, at, c, weights);
+    floor_from(shares, weight)
 }
 
 // 2 where the cut is certified to be a lightest one of the whole network, else 1.

@@ -15,10 +15,10 @@ use Rattle.cuts.proofs.Handles.{select-congr}
 use Rattle.sheet.specs.Bytes.{Bytes, number, fields, mapBit}
 use Rattle.sheet.specs.Reading.{Reading, accepted, refused, numberOf}
 use Rattle.sheet.specs.Sheet.{Format, decode}
-use Rattle.sheet.specs.Areas.{sideBytes, reportWidths, reportLength, sideAfter, reportAfter, sideRead, answerOf, answerRead}
+use Rattle.sheet.specs.Areas.{sideBytes, reportWidths, reportLength, sideAfter, reportAfter, sideRead, answerOf, answerRead, sideLeft, reportLeft}
 use Rattle.sheet.proofs.ByteLaws.{mapBit-table}
 use Rattle.sheet.proofs.Acceptance.{decode-zero}
-use Rattle.monitor.specs.Entry.{reading, sideLeft, reportLeft, Reported}
+use Rattle.monitor.specs.Entry.{reading, Reported}
 use Rattle.monitor.proofs.EntryLaws.{reading-is}
 use Rattle.print_text.specs.Decimal.{Text, decimal}
 use Rattle.print_text.specs.Line.{line, refusedLine, Put}

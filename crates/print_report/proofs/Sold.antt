@@ -13,7 +13,7 @@ use Rattle.cuts.proofs.Sold.{answer-before, floor-no-less, certified-before, ra
 use Rattle.sheet.specs.Bytes.{Bytes}
 use Rattle.sheet.specs.Reading.{Reading, accepted, refused, numberOf}
 use Rattle.sheet.specs.Sheet.{Format, base, wide, tolerant, trunked, current, decode}
-use Rattle.sheet.specs.Plain.{marked, cutOff, plain}
+use Rattle.sheet.proofs.Plain.{marked, cutOff, plain}
 use Rattle.sheet.proofs.Acceptance.{decode-accepted}
 use Rattle.sheet.proofs.PlainLaws.{plain-same}
 use Rattle.sheet.proofs.Sold.{reads-as-trunked, reads-before, accepted-before, accepted-as-wide, refused-before, refused-as-wide}

@@ -1,36 +1,37 @@
 // What the report program prints for a sheet, as bytes.
-use format::limits;
+use format::limits::MOST_NODES;
+use format::limits::REPORT_LENGTH;
+use format::limits::SIDE_LENGTH;
 use format::maps::bit_set;
 use format::numbers::eight;
 use format::numbers::two;
-use monitor::wcut_report;
+use monitor::report::wcut_report;
 use print_text::put_byte;
 use print_text::put_field;
 use print_text::put_word;
 use print_text::refused_line;
 use write_areas::NO_SECOND;
-use write_areas::REPORT_LENGTH;
 use write_areas::Report;
-use write_areas::SIDE_LENGTH;
 ghost use mathlib.Core.Path.{_≡_};
 ghost use mathlib.Core.List.{[], _∷_, map};
 ghost use Prim.Native.Nat.{ℕ, _+_, _≤_};
-ghost use lib.ListN.{length, take};
+ghost use lib.ListN.{length};
 ghost use Rattle.cuts.specs.Sums.{select};
+ghost use Rattle.cuts.specs.Limits.{mostNodes};
 ghost use Rattle.sheet.specs.Bytes.{fields, mapBit};
 ghost use Rattle.sheet.specs.Sheet.{current, decode};
-ghost use Rattle.sheet.specs.Areas.{reportWidths, reportLength, handleOf, answerOf, answerRead, written};
+ghost use Rattle.sheet.specs.Areas.{reportWidths, handleOf, answerOf, answerRead};
+ghost use Rattle.write_areas.specs.Fields.{fieldsOf};
 ghost use Rattle.print_text.specs.Decimal.{decimal};
-ghost use Rattle.print_text.specs.Line.{space, fieldsText, line, Put};
+ghost use Rattle.print_text.specs.Line.{space, fieldsText, line, PutIn};
 ghost use Rattle.print_report.specs.Output.{answerWord, sideWord, secondField, answerFields, answerLines, output, mostOutput};
 
 // No output has more bytes: line 1 takes 75 with each field at its largest, line 2 with all 256 nodes 919.
 pub const MOST_OUTPUT: usize = 994;
 
 // The report that stands in a report area.
-fn read_report(area: &[u8]) -> Report
-    requires { ⌜ length (now area) ≡ reportLength current ⌝ }
-    ensures { λ r. ⌜ (r .verdict ∷ r .tree ∷ r .count ∷ r .first ∷ r .second ∷ r .weight ∷ r .floor ∷ []) ≡ fields (reportWidths current) (now (area .entry)) ⌝ }
+fn read_report(area: &[u8; REPORT_LENGTH]) -> Report
+    ensures { λ r. ⌜ fieldsOf r ≡ fields (reportWidths current) (now (area .entry)) ⌝ }
 {
     Report {
         verdict: area[0],
@@ -46,8 +47,7 @@ fn read_report(area: &[u8]) -> Report
 // Writes the fields that say how light the cut is.
 fn put_bounds(out: &mut [u8], at: usize, verdict: u8, weight: u64, floor: u64) -> usize
     requires { ⌜ at + 46 ≤ length (now out) ⌝ }
-    ensures { λ r. ⌜ Put (now (out .entry)) at (fieldsText (decimal verdict ∷ decimal weight ∷ decimal floor ∷ [])) (now (out .exit)) r ⌝ }
-    ensures { λ r. ⌜ r ≤ at + 46 ⌝ }
+    ensures { λ r. ⌜ PutIn 46 (now (out .entry)) at (fieldsText (decimal verdict ∷ decimal weight ∷ decimal floor ∷ [])) (now (out .exit)) r ⌝ }
 {
     let mut end = put_field(out, at, verdict as u64);
     end = put_field(out, end, weight);
@@ -57,8 +57,7 @@ fn put_bounds(out: &mut [u8], at: usize, verdict: u8, weight: u64, floor: u64) -
 // Writes the field of the second link.
 fn put_second(out: &mut [u8], at: usize, second: u16) -> usize
     requires { ⌜ at + 6 ≤ length (now out) ⌝ }
-    ensures { λ r. ⌜ ((e : ℕ) → Put (now (out .entry)) at (space ∷ secondField (handleOf e second)) (now (out .exit)) r) ⌝ }
-    ensures { λ r. ⌜ r ≤ at + 6 ⌝ }
+    ensures { λ r. ⌜ ((e : ℕ) → PutIn 6 (now (out .entry)) at (space ∷ secondField (handleOf e second)) (now (out .exit)) r) ⌝ }
 {
     if second == NO_SECOND {
         return put_word(out, at, b" -");
@@ -69,8 +68,8 @@ fn put_second(out: &mut [u8], at: usize, second: u16) -> usize
 // Writes the fields that name the cut.
 fn put_cut(out: &mut [u8], at: usize, tree: u8, first: u16, second: u16, count: u16) -> usize
     requires { ⌜ at + 22 ≤ length (now out) ⌝ }
-    ensures { λ r. ⌜ Put (now (out .entry)) at (fieldsText (decimal tree ∷ decimal first ∷ secondField (handleOf first second) ∷ decimal count ∷ [])) (now (out .exit)) r ⌝ }
-    ensures { λ r. ⌜ r ≤ at + 22 ⌝ }
+    ensures { λ r. ⌜ PutIn 22 (now (out .entry)) at
+        (fieldsText (decimal tree ∷ decimal first ∷ secondField (handleOf first second) ∷ decimal count ∷ [])) (now (out .exit)) r ⌝ }
 {
     let mut end = put_field(out, at, tree as u64);
     end = put_field(out, end, first as u64);
@@ -81,8 +80,7 @@ fn put_cut(out: &mut [u8], at: usize, tree: u8, first: u16, second: u16, count: 
 // Writes the line of a report.
 fn answer_line(out: &mut [u8], r: Report) -> usize
     requires { ⌜ 75 ≤ length (now out) ⌝ }
-    ensures { λ end. ⌜ Put (now (out .entry)) 0 (line answerWord (answerFields (answerOf (r .verdict ∷ r .tree ∷ r .count ∷ r .first ∷ r .second ∷ r .weight ∷ r .floor ∷ []) []))) (now (out .exit)) end ⌝ }
-    ensures { λ end. ⌜ end ≤ 75 ⌝ }
+    ensures { λ end. ⌜ PutIn 75 (now (out .entry)) 0 (line answerWord (answerFields (answerOf (fieldsOf r) []))) (now (out .exit)) end ⌝ }
 {
     let mut end = put_word(out, 0, b"answer");
     end = put_bounds(out, end, r.verdict, r.weight, r.floor);
@@ -91,14 +89,14 @@ fn answer_line(out: &mut [u8], r: Report) -> usize
 }
 
 // Writes the numbers of the nodes in a side.
-fn put_nodes(out: &mut [u8], at: usize, side: &[u8]) -> usize
-    requires { ⌜ (at + 914 ≤ length (now out)) × (length (now side) ≡ 32) ⌝ }
-    ensures { λ r. ⌜ Put (now (out .entry)) at (fieldsText (map decimal (select 256 (mapBit (now (side .entry)))))) (now (out .exit)) r ⌝ }
-    ensures { λ r. ⌜ r ≤ at + 914 ⌝ }
+fn put_nodes(out: &mut [u8], at: usize, side: &[u8; SIDE_LENGTH]) -> usize
+    requires { ⌜ at + 914 ≤ length (now out) ⌝ }
+    ensures { λ r. ⌜ PutIn 914 (now (out .entry)) at
+        (fieldsText (map decimal (select mostNodes (mapBit (now (side .entry)))))) (now (out .exit)) r ⌝ }
 {
     let mut end = at;
     let mut x = 0;
-    while x < limits::MOST_NODES {
+    while x < MOST_NODES {
         if bit_set(side, x) {
             end = put_field(out, end, x as u64);
         }
@@ -108,10 +106,10 @@ fn put_nodes(out: &mut [u8], at: usize, side: &[u8]) -> usize
 }
 
 // Writes the line of a side.
-fn side_line(out: &mut [u8], at: usize, side: &[u8]) -> usize
-    requires { ⌜ (at + 919 ≤ length (now out)) × (length (now side) ≡ 32) ⌝ }
-    ensures { λ r. ⌜ Put (now (out .entry)) at (line sideWord (map decimal (select 256 (mapBit (now (side .entry)))))) (now (out .exit)) r ⌝ }
-    ensures { λ r. ⌜ r ≤ at + 919 ⌝ }
+fn side_line(out: &mut [u8], at: usize, side: &[u8; SIDE_LENGTH]) -> usize
+    requires { ⌜ at + 919 ≤ length (now out) ⌝ }
+    ensures { λ r. ⌜ PutIn 919 (now (out .entry)) at
+        (line sideWord (map decimal (select mostNodes (mapBit (now (side .entry)))))) (now (out .exit)) r ⌝ }
 {
     let mut end = put_word(out, at, b"side");
     end = put_nodes(out, end, side);
@@ -119,20 +117,19 @@ fn side_line(out: &mut [u8], at: usize, side: &[u8]) -> usize
 }
 
 // Writes both lines of an answer that stands in the two areas.
-fn answer_lines(out: &mut [u8], side: &[u8], report: &[u8]) -> usize
-    requires { ⌜ (mostOutput ≤ length (now out)) × (length (now side) ≡ 32) × (length (now report) ≡ reportLength current) ⌝ }
-    ensures { λ r. ⌜ Put (now (out .entry)) 0 (answerLines (answerRead current 256 (now (side .entry)) (now (report .entry)))) (now (out .exit)) r ⌝ }
-    ensures { λ r. ⌜ r ≤ mostOutput ⌝ }
+fn answer_lines(out: &mut [u8], side: &[u8; SIDE_LENGTH], report: &[u8; REPORT_LENGTH]) -> usize
+    requires { ⌜ mostOutput ≤ length (now out) ⌝ }
+    ensures { λ r. ⌜ PutIn mostOutput (now (out .entry)) 0
+        (answerLines (answerRead current mostNodes (now (side .entry)) (now (report .entry)))) (now (out .exit)) r ⌝ }
 {
     let end = answer_line(out, read_report(report));
     side_line(out, end, side)
 }
 
-// Reads a sheet and writes what the report program prints for it to the front of the buffer; the rest of the buffer is kept. Answers
-// how many bytes that is. The second promise follows from the first; it is what a caller needs to lend these bytes.
-pub fn report_lines(sheet: &[u8], out: &mut [u8; MOST_OUTPUT]) -> usize
-    ensures { λ r. ⌜ (r ≡ length (output current (decode current (now (sheet .entry))))) × (r ≤ mostOutput) × (now (out .exit) ≡ written (output current (decode current (now (sheet .entry)))) (now (out .entry))) ⌝ }
-    ensures { λ r. ⌜ (r ≤ length (now (out .exit))) × (r ≡ length (take r (now (out .exit)))) ⌝ }
+// Writes what the report program prints for a sheet to the front of the buffer, and answers how many bytes that is.
+fn put_output(out: &mut [u8], sheet: &[u8]) -> usize
+    requires { ⌜ mostOutput ≤ length (now out) ⌝ }
+    ensures { λ r. ⌜ PutIn mostOutput (now (out .entry)) 0 (output current (decode current (now (sheet .entry)))) (now (out .exit)) r ⌝ }
 {
     let mut side = [0u8; SIDE_LENGTH];
     let mut report = [0u8; REPORT_LENGTH];
@@ -142,4 +139,13 @@ pub fn report_lines(sheet: &[u8], out: &mut [u8; MOST_OUTPUT]) -> usize
     } else {
         refused_line(out, number)
     }
+}
+
+// What the report program prints for a sheet, as a part of the buffer, which has room for every output.
+pub fn report_lines<'a>(out: &'a mut [u8], sheet: &[u8]) -> &'a mut [u8]
+    requires { ⌜ mostOutput ≤ length (now out) ⌝ }
+    ensures { λ r. ⌜ now r ≡ output current (decode current (now (sheet .entry))) ⌝ }
+{
+    let end = put_output(out, sheet);
+    &mut out[..end]
 }

@@ -3,12 +3,12 @@
 use Prim.Native.Nat.{ℕ, suc, _+_, _≤_}
 use native.Mathlib.Nat.{zero-add}
 use native.Mathlib.Omega.{arith}
-use mathlib.Core.Path.{_≡_, refl, sym, ap, _∙_, subst}
+use mathlib.Core.Path.{_≡_, refl, sym, ap, ap₂, _∙_, subst}
 use mathlib.Core.List.{List, [], _∷_, _++_, append-nil, append-assoc}
 use lib.ListN.{length, length-append, set, take, drop}
-use lib.Seq.{sets, length-sets, sets-eq, length-take-le}
+use lib.Seq.{sets, length-sets, sets-eq, take-at}
 use Rattle.print_text.specs.Decimal.{Text}
-use Rattle.print_text.specs.Line.{space, lineFeed, fieldsText, line, Put}
+use Rattle.print_text.specs.Line.{space, lineFeed, fieldsText, line, Put, PutIn}
 
 sets-append : (xs : Text) (at : ℕ) (a b : Text) → sets (sets xs at a) (at + length a) b ≡ sets xs at (a ++ b)
 sets-append xs at [] b = ap (λ (k : ℕ). sets xs k b) (omega arith)
@@ -51,11 +51,13 @@ pub put-line : {old named filled new : Text} {at p q r : ℕ} (keyword : Text) (
 unfolding line
 put-line keyword fs h k l = put-put (put-put h k) l
 
--- text put to the front of a buffer that has room for it
-pub put-written : {old new text : Text} {end : ℕ} (most : ℕ) (out : Text) → Put old 0 text new end → text ≡ out → end ≤ most → most ≤ length old
-    → ((end ≡ length out) × (end ≤ most) × (new ≡ out ++ drop (length out) old)) × ((end ≤ length new) × (end ≡ length (take end new)))
-put-written {old} {new} {text} {end} most out h e b m =
-    let l : end ≡ length out = h .end-is ∙ ap (λ (t : Text). 0 + length t) e ∙ zero-add (length out) in
-    let w : new ≡ out ++ drop (length out) old = h .new-is ∙ ap (λ (t : Text). sets old 0 t) e ∙ sets-eq out old 0 (omega arith) ∙ ap (λ (k : ℕ). out ++ drop k old) (zero-add (length out)) in
-    let f : end ≤ length new = omega (arith, put-length h) in
-    ((l, b, w), (f, sym (length-take-le end new f)))
+-- the same text by another name, with a higher bound
+pub put-in : {old new text out : Text} {at end few most : ℕ} → PutIn few old at text new end → text ≡ out → few ≤ most → PutIn most old at out new end
+put-in {old} {new} {at = at} {end} h e m = record { put = subst (λ (t : Text). Put old at t new end) e (h .put); few = omega (arith, h .few) }
+
+-- text put to the front of a buffer that has room for it is the front
+pub put-front : {old new text : Text} {end most : ℕ} → PutIn most old 0 text new end → most ≤ length old → take end new ≡ text
+put-front {old} {new} {text} {end} {most} h m =
+    let e : end ≡ length text = h .put .end-is ∙ zero-add (length text) in
+    let b = h .few in
+    ap₂ take e (h .put .new-is ∙ sets-eq text old 0 (omega arith)) ∙ take-at text (drop (0 + length text) old) (length text) refl

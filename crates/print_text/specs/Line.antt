@@ -7,7 +7,8 @@
 --   refusedWord              the keyword of a refusal
 --   refusedLine n            the line of the refusal n
 --   Put old at text new end  a buffer that held `old` holds `new`: the text is written from a position on, and ends at `end`
-use Prim.Native.Nat.{ℕ, _+_}
+--   PutIn most old at ..     the same of a text that takes at most so many bytes
+use Prim.Native.Nat.{ℕ, _+_, _≤_}
 use Prim.Native.Char.{code}
 use Prim.Native.String.{String, [] as none, _∷_ as _then_}
 use mathlib.Core.Path.{_≡_}
@@ -44,3 +45,7 @@ refusedLine n = line refusedWord (decimal n ∷ [])
 pub record Put (old : Text) (at : ℕ) (text new : Text) (end : ℕ) : Type 0 where
   pub end-is : end ≡ at + length text
   pub new-is : new ≡ sets old at text
+
+pub record PutIn (most : ℕ) (old : Text) (at : ℕ) (text new : Text) (end : ℕ) : Type 0 where
+  pub put : Put old at text new end
+  pub few : end ≤ at + most

@@ -4,7 +4,7 @@ ghost use mathlib.Core.List.{[], _∷_};
 ghost use Prim.Native.Nat.{_+_, _≤_};
 ghost use lib.ListN.{length};
 ghost use Rattle.print_text.specs.Decimal.{decimal};
-ghost use Rattle.print_text.specs.Line.{space, refusedLine, Put};
+ghost use Rattle.print_text.specs.Line.{space, refusedLine, Put, PutIn};
 
 // Writes a byte.
 pub fn put_byte(out: &mut [u8], at: usize, byte: u8) -> usize
@@ -52,8 +52,7 @@ pub fn put_field(out: &mut [u8], at: usize, n: u64) -> usize
 // Writes the line of a refusal.
 pub fn refused_line(out: &mut [u8], number: u32) -> usize
     requires { ⌜ 19 ≤ length (now out) ⌝ }
-    ensures { λ r. ⌜ Put (now (out .entry)) 0 (refusedLine number) (now (out .exit)) r ⌝ }
-    ensures { λ r. ⌜ r ≤ 19 ⌝ }
+    ensures { λ r. ⌜ PutIn 19 (now (out .entry)) 0 (refusedLine number) (now (out .exit)) r ⌝ }
 {
     let mut end = put_word(out, 0, b"refused");
     end = put_field(out, end, number as u64);

@@ -30,7 +30,7 @@ module _ (f : Format) (sheet : Bytes) {numbers numbers′ : List ℕ} {n : ℕ} 
       let ts : List ℕ = trunksFrom f (linkCount net) 0 (drop 5 sheet) in
       let front : numbers′ ≡ written ts numbers = rw t at (said .numbers-are) in
       let size = trunksFrom-length f (linkCount net) 0 (drop 5 sheet) in
-      (h .0, omega (arith, h .1, h .2), rw t (ap (linesFrom 0) (ap₂ take (h .1) front ∙ take-at ts _ (linkCount net) size)))
+      (h .whole, omega (arith, h .says, h .few), rw t (ap (linesFrom 0) (ap₂ take (h .says) front ∙ take-at ts _ (linkCount net) size)))
 
   pub refused-output : (n ≡ 0 → ⊥) → refusedLine n ≡ output (trunks f sheet)
   refused-output z = step (trunks f sheet) (said .number)

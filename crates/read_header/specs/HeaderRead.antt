@@ -4,7 +4,7 @@
 use lib.ListN.{drop}
 use Rattle.sheet.specs.Bytes.{Bytes}
 use Rattle.sheet.specs.Reading.{Reading, accepted, refused}
-use Rattle.sheet.specs.Sheet.{Counts}
+use Rattle.sheet.specs.Sheet.{Counts, headerLength}
 use Rattle.read_header.specs.declared.Counts as counts
 use Rattle.read_header.specs.declared.Header as header
 use Rattle.read_header.specs.declared.Header.the-variants as header-is
@@ -13,5 +13,5 @@ abbrev pub countsOf : counts.Counts → Counts
 countsOf c = record { nodes = c .nodes; links = c .links; trees = c .trees }
 
 abbrev pub headerSays : Bytes → header.Header → Reading Counts
-headerSays s (header-is.Read c) = accepted (countsOf c) (drop 5 s)
+headerSays s (header-is.Read c) = accepted (countsOf c) (drop headerLength s)
 headerSays s (header-is.Refused n) = refused n

@@ -10,9 +10,10 @@ use lib.Seq.{getD-set-same, getD-set-other, getD-at}
 use lib.Dec.{eqb}
 use Rattle.cuts.specs.Sums.{table}
 use Rattle.cuts.specs.Network.{Link, noLink}
+use Rattle.cuts.specs.Limits.{mostNodes, mostLinks}
 use Rattle.cuts.proofs.SumLaws.{table-length, table-congr, table-at}
 use Rattle.arrays.specs.Lists.{part}
-use Rattle.arrays.specs.Links.{EndArrays, linksOf}
+use Rattle.arrays.specs.Links.{EndArrays, linksOf, LinkArrays}
 use Rattle.sheet.specs.Bytes.{Bytes}
 use Rattle.sheet.specs.Reading.{accepted, refused, records}
 use Rattle.sheet.specs.Sheet.{Format, linkRecord, nextLink}
@@ -74,10 +75,9 @@ pub record LinksRun (f : Format) (s : Bytes) (from nodes count : ℕ) (ends : Li
   pub last : linkOf l ≡ getD (linksOf k (part ends 0) (part ends 1) ws) (k - 1) noLink
   pub inside : at ≤ length s
   pub within : k ≤ count
-  pub few : nodes ≤ 256
-  pub arrays : EndArrays ends
-  pub weights : length ws ≡ 2_048
-  pub room : count ≤ 2_048
+  pub few : nodes ≤ mostNodes
+  pub arrays : LinkArrays ends ws
+  pub room : count ≤ mostLinks
 
 module _ {f : Format} {s : Bytes} {from nodes count : ℕ} {ends : List (List ℕ)} {ws : List ℕ} {at : ℕ} {l : link.Link} {k : ℕ}
     (w : LinksRun f s from nodes count ends ws at l k) where
@@ -101,10 +101,10 @@ module _ {f : Format} {s : Bytes} {from nodes count : ℕ} {ends : List (List �
       links-more i =
           let r = w .room in
           let held =
-          linksOf-set k (next .first) (next .second) (next .weight) (part ends 0) (part ends 1) ws (omega (arith, w .arrays .firsts)) (omega (arith, w .arrays .seconds))
-          (omega (arith, w .weights)) in
+          linksOf-set k (next .first) (next .second) (next .weight) (part ends 0) (part ends 1) ws (omega (arith, w .arrays .ends-room .firsts)) (omega (arith, w .arrays .ends-room .seconds))
+          (omega (arith, w .arrays .weights-room)) in
           let same = ap₂ (λ (fs : List ℕ) (ss : List ℕ). linksOf (k + 1) fs ss (set ws k (next .weight)))
-          (firsts-put ends k (next .first) (next .second) (w .arrays)) (seconds-put ends k (next .first) (next .second) (w .arrays)) ∙ held in
+          (firsts-put ends k (next .first) (next .second) (w .arrays .ends-room)) (seconds-put ends k (next .first) (next .second) (w .arrays .ends-room)) ∙ held in
           let place : k + 1 - 1 ≡ k = omega arith in
           record {
             run = rw same (run-more (w .run) more (next-is ∙ sym e));
@@ -112,8 +112,10 @@ module _ {f : Format} {s : Bytes} {from nodes count : ℕ} {ends : List (List �
             inside = i;
             within = omega arith;
             few = w .few;
-            arrays = arrays-put ends k (next .first) (next .second) (w .arrays);
-            weights = length-set ws k (next .weight) ∙ w .weights;
+            arrays = record {
+              ends-room = arrays-put ends k (next .first) (next .second) (w .arrays .ends-room);
+              weights-room = length-set ws k (next .weight) ∙ w .arrays .weights-room;
+            };
             room = r;
           }
 

@@ -3,22 +3,19 @@
 pub mod trunks; // trunk numbers
 
 use format::Step;
+use format::limits::MOST_LINKS;
 use format::numbers::four;
 use format::numbers::two;
 use format::refusals;
 ghost use mathlib.Core.Path.{_≡_};
 ghost use mathlib.Core.Bool.{cond};
-ghost use mathlib.Core.List.{[]};
 ghost use Prim.Native.Nat.{_+_, _*_, _≤_};
 ghost use lib.Dec.{eqb};
 ghost use lib.ListN.{length, drop};
 ghost use Rattle.sheet.specs.Bytes.{number};
-ghost use Rattle.arrays.specs.Lists.{part};
-ghost use Rattle.arrays.specs.Links.{EndArrays, linksOf};
-ghost use Rattle.sheet.specs.Reading.{firstFailing, records};
-ghost use Rattle.sheet.specs.Sheet.{current, recordLength, linkIn, shapeChecks, valueChecks, linkRecord, nextLink};
-ghost use Rattle.format.specs.Steps.{stepNumber, stepSays, EndsAt, Inside};
-ghost use Rattle.read_links.specs.LinksRead.{fieldsSay, fieldsOf, linkOf, linkSays, LinkInside};
+ghost use Rattle.sheet.specs.Reading.{firstFailing};
+ghost use Rattle.sheet.specs.Sheet.{current, recordLength, linkIn, valueChecks};
+ghost use Rattle.read_links.specs.LinksRead.{fieldsSay, fieldsOf, linkOf, RecordEnds, LinkRead, LinksReadable, LinksRead};
 
 // The three lowest bits of link 0's map byte: both ends and the weight are there.
 const ENDS_AND_WEIGHT: u8 = 7;
@@ -59,8 +56,7 @@ fn field_bytes(m: u8) -> Fields
 // Where the record ends. `start` says that it is link 0's.
 fn record_end(s: &[u8], at: usize, start: bool) -> Step
     requires { ⌜ at ≤ length (now s) ⌝ }
-    ensures { λ r. ⌜ stepNumber r ≡ firstFailing (shapeChecks current start (drop at (now (s .entry)))) ⌝ }
-    ensures { λ r. ⌜ EndsAt (at + recordLength current (drop at (now (s .entry)))) (now (s .entry)) r ⌝ }
+    ensures { λ r. ⌜ RecordEnds current start (now (s .entry)) at r ⌝ }
 {
     if at == s.len() {
         return Step::Refused(refusals::NO_MAP_BYTE);
@@ -125,8 +121,7 @@ fn link_refusal(nodes: usize, l: Link) -> u32
 // The link of the record at a position, where `before` is the link before it.
 fn read_link(s: &[u8], at: usize, nodes: usize, start: bool, before: Link) -> Record
     requires { ⌜ at ≤ length (now s) ⌝ }
-    ensures { λ r. ⌜ linkSays (now (s .entry)) r ≡ linkRecord current nodes start (linkOf before) (drop at (now (s .entry))) ⌝ }
-    ensures { λ r. ⌜ LinkInside (now (s .entry)) r ⌝ }
+    ensures { λ r. ⌜ LinkRead current nodes start (linkOf before) (now (s .entry)) at r ⌝ }
 {
     match record_end(s, at, start) {
         Step::End(end) => {
@@ -144,17 +139,15 @@ fn read_link(s: &[u8], at: usize, nodes: usize, start: bool, before: Link) -> Re
 
 // The links of `count` records from a position on, into the arrays: their first ends, their second ends and their weights.
 pub fn read_links(
+    ends: &mut [[u8; MOST_LINKS]; 2],
+    weights: &mut [u32; MOST_LINKS],
     s: &[u8],
     from: usize,
     nodes: usize,
     count: usize,
-    ends: &mut [[u8; 2048]; 2],
-    weights: &mut [u32],
 ) -> Step
-    requires { ⌜ (from ≤ length (now s)) × (nodes ≤ 256) × (count ≤ 2048) × EndArrays (now ends) × (length (now weights) ≡ 2048) ⌝ }
-    ensures { λ r. ⌜ stepSays (linksOf count (part (now (ends .exit)) 0) (part (now (ends .exit)) 1) (now (weights .exit))) (now (s .entry)) r
-        ≡ records (nextLink current nodes) count [] (drop from (now (s .entry))) ⌝ }
-    ensures { λ r. ⌜ Inside (now (s .entry)) r × EndArrays (now (ends .exit)) ⌝ }
+    requires { ⌜ LinksReadable (now s) from nodes count (now ends) (now weights) ⌝ }
+    ensures { λ r. ⌜ LinksRead current (now (s .entry)) from nodes count (now (ends .exit)) (now (weights .exit)) r ⌝ }
 {
     let mut at = from;
     let mut link = Link {

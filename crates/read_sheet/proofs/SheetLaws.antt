@@ -11,7 +11,7 @@ use Rattle.cuts.specs.Network.{Link, Tree, noLink}
 use Rattle.arrays.specs.Links.{Held, linksOf}
 use Rattle.sheet.specs.Bytes.{Bytes}
 use Rattle.sheet.specs.Reading.{Check, check, firstFailing, accepted, refused, records}
-use Rattle.sheet.specs.Sheet.{Format, Counts, countsIn, countChecks, headerRecord, nextLink, treeRecord, network, decodeBody, decode}
+use Rattle.sheet.specs.Sheet.{Format, Counts, headerLength, countsIn, countChecks, headerRecord, nextLink, treeRecord, network, decodeBody, decode}
 use Rattle.sheet.proofs.ReadingLaws.{passed, unless-accepted, records-all}
 use Rattle.sheet.proofs.Acceptance.{GoodLink, good-link}
 use Rattle.read_links.proofs.LinksLaws.{linksOf-length, linksOf-at}
@@ -29,36 +29,36 @@ held-links f nodes m fs ss ws bs rest z e =
     }
 
 module _ (f : Format) (s : Bytes) (c : Counts) where
-  pub refused-by-links : (n : ℕ) → refused n ≡ records (nextLink f (c .nodes)) (c .links) [] (drop 5 s) → refused n ≡ decodeBody f c (drop 5 s)
+  pub refused-by-links : (n : ℕ) → refused n ≡ records (nextLink f (c .nodes)) (c .links) [] (drop headerLength s) → refused n ≡ decodeBody f c (drop headerLength s)
   unfolding decodeBody
   refused-by-links n e = rw (← e)
 
-  module _ (links : List Link) (at : ℕ) (l : accepted links (drop at s) ≡ records (nextLink f (c .nodes)) (c .links) [] (drop 5 s)) where
-    pub refused-by-trees : (n : ℕ) → refused n ≡ records (λ _. treeRecord (network (c .nodes) links [])) (c .trees) [] (drop at s) → refused n ≡ decodeBody f c (drop 5 s)
+  module _ (links : List Link) (at : ℕ) (l : accepted links (drop at s) ≡ records (nextLink f (c .nodes)) (c .links) [] (drop headerLength s)) where
+    pub refused-by-trees : (n : ℕ) → refused n ≡ records (λ _. treeRecord (network (c .nodes) links [])) (c .trees) [] (drop at s) → refused n ≡ decodeBody f c (drop headerLength s)
     unfolding decodeBody
     refused-by-trees n e = rw (← l, ← e)
 
     module _ (trees : List Tree) (end : ℕ) (t : accepted trees (drop end s) ≡ records (λ _. treeRecord (network (c .nodes) links [])) (c .trees) [] (drop at s)) where
-      pub bytes-left : end < length s → refused 16 ≡ decodeBody f c (drop 5 s)
+      pub bytes-left : end < length s → refused 16 ≡ decodeBody f c (drop headerLength s)
       unfolding decodeBody firstFailing
       bytes-left h = rw (← l, ← t, lt-ltb 0 (length (drop end s)) (rw (length-drop end s) (omega arith)))
 
-      pub sheet-read : end ≡ length s → accepted (network (c .nodes) links trees) [] ≡ decodeBody f c (drop 5 s)
+      pub sheet-read : end ≡ length s → accepted (network (c .nodes) links trees) [] ≡ decodeBody f c (drop headerLength s)
       unfolding decodeBody firstFailing
       sheet-read h = let none : drop end s ≡ [] = ap (λ (i : ℕ). drop i s) h ∙ drop-length s in rw (← l, ← t, none)
 
 module _ (s : Bytes) where
-  pub header-whole : (c : Counts) (rest : Bytes) → accepted c rest ≡ headerRecord s → 5 ≤ length s
+  pub header-whole : (c : Counts) (rest : Bytes) → accepted c rest ≡ headerRecord s → headerLength ≤ length s
   unfolding headerRecord countChecks
   header-whole c rest e =
-      let cs : List Check = check 3 (ltb (length s) 5) ∷ countChecks (countsIn s) in
-      ltb-false (length s) 5 (passed 3 cs refl (unless-accepted (firstFailing cs) _ (sym e) .0))
+      let cs : List Check = check 3 (ltb (length s) headerLength) ∷ countChecks (countsIn s) in
+      ltb-false (length s) headerLength (passed 3 cs refl (unless-accepted (firstFailing cs) _ (sym e) .0))
 
 module _ (f : Format) (s : Bytes) where
   pub refused-by-header : (n : ℕ) → refused n ≡ headerRecord s → refused n ≡ decode f s
   unfolding decode
   refused-by-header n e = rw (← e)
 
-  pub header-read : (c : Counts) → accepted c (drop 5 s) ≡ headerRecord s → decodeBody f c (drop 5 s) ≡ decode f s
+  pub header-read : (c : Counts) → accepted c (drop headerLength s) ≡ headerRecord s → decodeBody f c (drop headerLength s) ≡ decode f s
   unfolding decode
   header-read c e = rw (← e)

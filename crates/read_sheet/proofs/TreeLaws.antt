@@ -148,26 +148,26 @@ module _ (net : Network) (s map : Bytes) (at : ℕ) (slice : map ≡ take (mapLe
 -- ---- the map of the record at a position, as code slices it
 
 abbrev pub mapAt : Bytes → ℕ → ℕ → Bytes
-mapAt s at links = take (at + 4 + (links + 7) / 8 - (at + 4)) (drop (at + 4) s)
+mapAt s at size = take (at + 4 + size - (at + 4)) (drop (at + 4) s)
 
-module _ (s : Bytes) (at links : ℕ) where
-  pub mapAt-is : mapAt s at links ≡ take (mapLength links) (drop (at + 4) s)
-  mapAt-is = let e : at + 4 + (links + 7) / 8 - (at + 4) ≡ mapLength links = omega arith in rw e
+module _ (s : Bytes) (at links size : ℕ) (sized : size ≡ mapLength links) where
+  pub mapAt-is : mapAt s at size ≡ take (mapLength links) (drop (at + 4) s)
+  mapAt-is = let e : at + 4 + size - (at + 4) ≡ mapLength links = omega arith in rw e
 
-  pub mapAt-counted : countTo links (mapBit (mapAt s at links)) ≡ countTo links (mapBit (drop (at + 4) s))
+  pub mapAt-counted : countTo links (mapBit (mapAt s at size)) ≡ countTo links (mapBit (drop (at + 4) s))
   mapAt-counted =
       rw mapAt-is
       (sum-congr links _ _ (λ k b. ap (λ (c : Bool). only c 1) (mapBit-take (mapLength links) (drop (at + 4) s) k (omega arith))))
 
   module _ (net : Network) (n : linkCount net ≡ links) where
-    pub mapAt-slice : mapAt s at links ≡ take (mapLength (linkCount net)) (drop (at + 4) s)
+    pub mapAt-slice : mapAt s at size ≡ take (mapLength (linkCount net)) (drop (at + 4) s)
     mapAt-slice = mapAt-is ∙ ap (λ (i : ℕ). take (mapLength i) (drop (at + 4) s)) (sym n)
 
-    pub mapAt-members : at + treeLength links ≤ length s → treeIn net (drop at s) .members ≡ table links (mapBit (mapAt s at links))
+    pub mapAt-members : at + treeLength links ≤ length s → treeIn net (drop at s) .members ≡ table links (mapBit (mapAt s at size))
     mapAt-members whole =
-        members-at net s (mapAt s at links) at mapAt-slice (rw n whole) ∙ ap (λ (i : ℕ). table i (mapBit (mapAt s at links))) n
+        members-at net s (mapAt s at size) at mapAt-slice (rw n whole) ∙ ap (λ (i : ℕ). table i (mapBit (mapAt s at size))) n
 
-  pub mapAt-length : at + treeLength links ≤ length s → length (mapAt s at links) ≡ mapLength links
+  pub mapAt-length : at + treeLength links ≤ length s → length (mapAt s at size) ≡ mapLength links
   mapAt-length whole = rw mapAt-is (length-take-le (mapLength links) (drop (at + 4) s) (rw (length-drop (at + 4) s) (omega arith)))
 
 -- ---- one record after another

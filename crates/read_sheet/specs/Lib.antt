@@ -1,1 +1,2 @@
+pub mod TreesRead
 pub mod SheetRead

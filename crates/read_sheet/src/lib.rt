@@ -4,18 +4,17 @@ pub mod tree_records; // tree records
 use crate::tree_records::read_trees;
 use format::Step;
 use format::limits::HEADER_LENGTH;
+use format::limits::MOST_LINKS;
 use format::refusals;
 use read_header::Counts;
 use read_header::Header;
 use read_header::read_header;
 use read_links::read_links;
-ghost use mathlib.Core.Path.{_≡_};
-ghost use Prim.Native.Nat.{_≤_, _<_};
-ghost use lib.ListN.{length, drop};
-ghost use Rattle.arrays.specs.Links.{EndArrays};
-ghost use Rattle.sheet.specs.Sheet.{current, decodeBody, decode};
+ghost use lib.ListN.{drop};
+ghost use Rattle.sheet.specs.Sheet.{current, headerLength, decodeBody, decode};
 ghost use Rattle.read_header.specs.HeaderRead.{countsOf};
-ghost use Rattle.read_sheet.specs.SheetRead.{sheetSays, TreesLast};
+ghost use Rattle.arrays.specs.Links.{LinkArrays};
+ghost use Rattle.read_sheet.specs.SheetRead.{BodyReadable, SheetRead};
 
 // The counts and where the first tree record stands, or the refusal number.
 pub enum Outcome {
@@ -24,16 +23,20 @@ pub enum Outcome {
 }
 
 // The links and trees behind the header.
-fn read_body(s: &[u8], c: Counts, ends: &mut [[u8; 2048]; 2], weights: &mut [u32]) -> Outcome
-    requires { ⌜ (5 ≤ length (now s)) × (0 < c .nodes) × (c .nodes ≤ 256) × (c .links ≤ 2048) ⌝ }
-    requires { ⌜ EndArrays (now ends) × (length (now weights) ≡ 2048) ⌝ }
-    ensures { λ r. ⌜ sheetSays (now (s .entry)) (now (ends .exit)) (now (weights .exit)) r ≡ decodeBody current (countsOf c) (drop 5 (now (s .entry))) ⌝ }
-    ensures { λ r. ⌜ TreesLast (now (s .entry)) r × EndArrays (now (ends .exit)) ⌝ }
+fn read_body(
+    ends: &mut [[u8; MOST_LINKS]; 2],
+    weights: &mut [u32; MOST_LINKS],
+    s: &[u8],
+    c: Counts,
+) -> Outcome
+    requires { ⌜ BodyReadable (now s) (countsOf c) (now ends) (now weights) ⌝ }
+    ensures { λ r. ⌜ SheetRead (now (s .entry)) (now (ends .exit)) (now (weights .exit))
+        (decodeBody current (countsOf c) (drop headerLength (now (s .entry)))) r ⌝ }
 {
     let nodes = c.nodes;
     let links = c.links;
     let trees = c.trees;
-    match read_links(s, HEADER_LENGTH, nodes, links, ends, weights) {
+    match read_links(ends, weights, s, HEADER_LENGTH, nodes, links) {
         Step::End(at) => match read_trees(s, at, nodes, links, trees, ends) {
             Step::End(end) => {
                 if end < s.len() {
@@ -51,13 +54,17 @@ fn read_body(s: &[u8], c: Counts, ends: &mut [[u8; 2048]; 2], weights: &mut [u32
 // Reads a sheet: each link's first end, second end and weight into the arrays, and the counts and the position of the first tree record
 // as the answer; or the number of the first refusal.
 // Cost: one pass over the bytes and one over the bits of each link map, and for each tree a few steps for each of its nodes.
-pub fn read_sheet(s: &[u8], ends: &mut [[u8; 2048]; 2], weights: &mut [u32]) -> Outcome
-    requires { ⌜ EndArrays (now ends) × (length (now weights) ≡ 2048) ⌝ }
-    ensures { λ r. ⌜ sheetSays (now (s .entry)) (now (ends .exit)) (now (weights .exit)) r ≡ decode current (now (s .entry)) ⌝ }
-    ensures { λ r. ⌜ TreesLast (now (s .entry)) r × EndArrays (now (ends .exit)) ⌝ }
+pub fn read_sheet(
+    ends: &mut [[u8; MOST_LINKS]; 2],
+    weights: &mut [u32; MOST_LINKS],
+    s: &[u8],
+) -> Outcome
+    requires { ⌜ LinkArrays (now ends) (now weights) ⌝ }
+    ensures { λ r. ⌜ SheetRead (now (s .entry)) (now (ends .exit)) (now (weights .exit))
+        (decode current (now (s .entry))) r ⌝ }
 {
     match read_header(s) {
-        Header::Read(c) => read_body(s, c, ends, weights),
+        Header::Read(c) => read_body(ends, weights, s, c),
         Header::Refused(n) => Outcome::Refused(n),
     }
 }

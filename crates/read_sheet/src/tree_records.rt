@@ -1,5 +1,7 @@
 // Tree records: a share, then a map with one bit a link.
 use format::Step;
+use format::limits::MOST_LINKS;
+use format::limits::MOST_NODES;
 use format::maps::list_members;
 use format::maps::ones;
 use format::maps::stray_bit;
@@ -7,23 +9,47 @@ use format::refusals;
 use tree_growth::Grown;
 use tree_growth::grow;
 ghost use mathlib.Core.Path.{_≡_};
-ghost use mathlib.Core.List.{[]};
-ghost use Prim.Native.Nat.{ℕ, _+_, _-_, _*_, _≤_, _<_};
-ghost use lib.ListN.{length, drop};
-ghost use Rattle.cuts.specs.Sums.{countTo, table};
+ghost use Prim.Native.Nat.{_+_, _*_, _≤_};
+ghost use Rattle.cuts.specs.Limits.{mostLinks};
+ghost use Rattle.cuts.specs.Sums.{table};
 ghost use Rattle.cuts.specs.Network.{Network, Tree, linkCount};
-ghost use Rattle.arrays.specs.Lists.{part};
-ghost use Rattle.arrays.specs.Links.{Held, Ending};
+ghost use Rattle.arrays.specs.Links.{firstEnds, secondEnds, Held};
 ghost use Rattle.arrays.specs.Grown.{GrownTree};
 ghost use Rattle.sheet.specs.Bytes.{mapBit};
-ghost use Rattle.sheet.specs.Reading.{firstFailing, records};
-ghost use Rattle.sheet.specs.Sheet.{mapLength, treeLength, treeIn, mapChecks, treeRecord};
-ghost use Rattle.format.specs.Steps.{stepSays, EndsAt};
-ghost use Rattle.arrays.specs.Records.{treesFrom};
+ghost use Rattle.sheet.specs.Reading.{firstFailing};
+ghost use Rattle.sheet.specs.Sheet.{mapLength, treeLength, mapChecks};
+ghost use Rattle.read_sheet.specs.TreesRead.{RecordPlaced, MapSized, MapCounted, TreesAhead, TreeRead, TreesRead};
+
+// The bytes of a tree's share, in front of its map.
+pub const SHARE_LENGTH: usize = 4;
+
+// The bytes of a tree's link map.
+pub fn map_length(links: usize) -> usize
+    requires { ⌜ links ≤ mostLinks ⌝ }
+    ensures { λ r. ⌜ r ≡ mapLength links ⌝ }
+{
+    (links + 7) / 8
+}
+
+// The bytes of a tree record.
+pub fn tree_length(links: usize) -> usize
+    requires { ⌜ links ≤ mostLinks ⌝ }
+    ensures { λ r. ⌜ r ≡ treeLength links ⌝ }
+{
+    SHARE_LENGTH + map_length(links)
+}
+
+// Where the record of a tree stands, of the tree records from a position on.
+pub fn record_at(at: usize, links: usize, tree: usize) -> usize
+    requires { ⌜ RecordPlaced at links tree ⌝ }
+    ensures { λ r. ⌜ r ≡ at + tree * treeLength links ⌝ }
+{
+    at + tree * tree_length(links)
+}
 
 // The refusal number of a map's bits, 0 where they are not refused.
 fn map_refusal(map: &[u8], nodes: usize, links: usize) -> u32
-    requires { ⌜ (length (now map) ≡ mapLength links) × (links ≤ 2048) × (0 < nodes) ⌝ }
+    requires { ⌜ MapSized (now map) nodes links ⌝ }
     ensures { λ r. ⌜ r ≡ firstFailing (mapChecks nodes links (now (map .entry))) ⌝ }
 {
     if stray_bit(map, links) {
@@ -36,30 +62,34 @@ fn map_refusal(map: &[u8], nodes: usize, links: usize) -> u32
 }
 
 // Grows the tree whose members are in a map, and says whether they join all nodes.
-pub fn grow_tree(map: &[u8], nodes: usize, links: usize, ends: &[[u8; 2048]; 2]) -> Grown
-    requires { ⌜ (length (now map) ≡ mapLength links) × (countTo links (mapBit (now map)) ≡ nodes - 1) × (0 < nodes) × (nodes ≤ 256) × (links ≤ 2048) ⌝ }
-    requires { ⌜ ((k : ℕ) → k < links → Ending (part (now ends) 0) (part (now ends) 1) nodes k) ⌝ }
-    ensures { λ r. ⌜ ((net : Network) (t : Tree) → Held net (part (now (ends .entry)) 0) (part (now (ends .entry)) 1) nodes → linkCount net ≡ links
-        → t .members ≡ table links (mapBit (now (map .entry))) → GrownTree net t (r .order) (r .parents) (r .uplinks) (r .joined)) ⌝ }
+pub fn grow_tree(map: &[u8], nodes: usize, links: usize, ends: &[[u8; MOST_LINKS]; 2]) -> Grown
+    requires { ⌜ MapCounted (now map) nodes links (now ends) ⌝ }
+    ensures { λ r. ⌜ ((net : Network) (t : Tree)
+        → Held net (firstEnds (now (ends .entry))) (secondEnds (now (ends .entry))) nodes
+        → linkCount net ≡ links → t .members ≡ table links (mapBit (now (map .entry)))
+        → GrownTree net t (r .order) (r .parents) (r .uplinks) (r .joined)) ⌝ }
 {
-    let mut members = [0u16; 256];
-    let count = list_members(map, links, &mut members);
-    grow(&ends[0], &ends[1], &members, count, nodes)
+    let mut members = [0u16; MOST_NODES];
+    let count = list_members(&mut members, map, links);
+    grow(nodes, &ends[0], &ends[1], &members, count)
 }
 
 // The tree record at a position.
-pub fn read_tree(s: &[u8], at: usize, nodes: usize, links: usize, ends: &[[u8; 2048]; 2]) -> Step
-    requires { ⌜ (at ≤ length (now s)) × (0 < nodes) × (nodes ≤ 256) × (links ≤ 2048) ⌝ }
-    requires { ⌜ ((k : ℕ) → k < links → Ending (part (now ends) 0) (part (now ends) 1) nodes k) ⌝ }
-    ensures { λ r. ⌜ ((net : Network) → Held net (part (now (ends .entry)) 0) (part (now (ends .entry)) 1) nodes → linkCount net ≡ links
-        → stepSays (treeIn net (drop at (now (s .entry)))) (now (s .entry)) r ≡ treeRecord net (drop at (now (s .entry)))) ⌝ }
-    ensures { λ r. ⌜ EndsAt (at + treeLength links) (now (s .entry)) r ⌝ }
+pub fn read_tree(
+    s: &[u8],
+    at: usize,
+    nodes: usize,
+    links: usize,
+    ends: &[[u8; MOST_LINKS]; 2],
+) -> Step
+    requires { ⌜ TreesAhead (now s) at nodes links (now ends) ⌝ }
+    ensures { λ r. ⌜ TreeRead (now (s .entry)) at nodes links (now (ends .entry)) r ⌝ }
 {
-    let size = (links + 7) / 8;
-    if s.len() - at < 4 + size {
+    let size = map_length(links);
+    if s.len() - at < SHARE_LENGTH + size {
         return Step::Refused(refusals::CUT_OFF_TREE);
     }
-    let map_at = at + 4;
+    let map_at = at + SHARE_LENGTH;
     let end = map_at + size;
     let map = &s[map_at..end];
     let n = map_refusal(map, nodes, links);
@@ -82,14 +112,10 @@ pub fn read_trees(
     nodes: usize,
     links: usize,
     trees: usize,
-    ends: &[[u8; 2048]; 2],
+    ends: &[[u8; MOST_LINKS]; 2],
 ) -> Step
-    requires { ⌜ (from ≤ length (now s)) × (0 < nodes) × (nodes ≤ 256) × (links ≤ 2048) ⌝ }
-    requires { ⌜ ((k : ℕ) → k < links → Ending (part (now ends) 0) (part (now ends) 1) nodes k) ⌝ }
-    ensures { λ r. ⌜ ((net : Network) → Held net (part (now (ends .entry)) 0) (part (now (ends .entry)) 1) nodes → linkCount net ≡ links
-        → stepSays (treesFrom net trees (drop from (now (s .entry)))) (now (s .entry)) r
-        ≡ records (λ _. treeRecord net) trees [] (drop from (now (s .entry)))) ⌝ }
-    ensures { λ r. ⌜ EndsAt (from + trees * treeLength links) (now (s .entry)) r ⌝ }
+    requires { ⌜ TreesAhead (now s) from nodes links (now ends) ⌝ }
+    ensures { λ r. ⌜ TreesRead (now (s .entry)) from nodes links trees (now (ends .entry)) r ⌝ }
 {
     let mut at = from;
     let mut i = 0;

@@ -11,8 +11,8 @@ const MOST_INPUT: usize = 32768;
 fn report(input: &mut [u8]) {
     let read = io::read_full(STDIN_FILENO, input);
     let mut out = [0u8; MOST_OUTPUT];
-    let written = report_lines(&input[..read], &mut out);
-    io::write_all(STDOUT_FILENO, &out[..written]);
+    let lines = report_lines(&mut out, &input[..read]);
+    io::write_all(STDOUT_FILENO, lines);
 }
 
 fn main() {

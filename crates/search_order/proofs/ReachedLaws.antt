@@ -1,6 +1,6 @@
 -- A search by rows on its way: what is found says the first of what was found before the tree and of the candidates tried so far.
 -- Assumes nothing.
-use Prim.Native.Nat.{ℕ, zero, suc, _+_, _-_, _≤_, _<_, min, max}
+use Prim.Native.Nat.{ℕ, zero, suc, _+_, _-_, _≤_, _<_}
 use mathlib.Core.Path.{_≡_, sym, ap₂, _∙_, subst}
 use mathlib.Core.Logic.{inl}
 use mathlib.Core.Bool.{Bool, true, false, cond}
@@ -16,7 +16,7 @@ use Rattle.cuts.proofs.ThenLaws.{then-left, by-number-in}
 use Rattle.cuts.proofs.Demands.{ahead-weighing}
 use Rattle.arrays.specs.Lists.{entry}
 use Rattle.arrays.specs.Kept.{LinksAt}
-use Rattle.search_order.specs.Choice.{earlier, comesFirst, chosen, Says, shown, Prior, treeCandidates}
+use Rattle.search_order.specs.Choice.{earlier, comesFirst, chosen, Says, shown, Paired, Prior, treeCandidates}
 use Rattle.search_order.specs.Visits.{handleAt, Reached}
 use Rattle.search_order.specs.declared.Found.{Found}
 use Rattle.search_order.proofs.OrderLaws.{first-alone}
@@ -51,10 +51,15 @@ module _ {before : Candidate → Candidate → Bool} (o : Order before) {net : N
 
 -- what is made of the links at two places says their candidate
 pub says-pair : (net : Network) {i : ℕ} (t : Tree) (links : List ℕ) {tried : Found} (u v : ℕ) {w n : ℕ}
-    → (tried .tree ≡ i) × (tried .first ≡ min (entry links u) (entry links v)) × (tried .second ≡ max (entry links u) (entry links v)) × (tried .weight ≡ w) × (tried .count ≡ n)
+    → Paired i (entry links u) (entry links v) w n tried
     → w ≡ weightOf net t (handleAt links u v) → n ≡ size net (sideOf net t (handleAt links u v)) → Says tried (candidate net i t (handleAt links u v))
 unfolding candidate
-says-pair net t links u v e w n = record { tree = e .0; handle = ap₂ chosen (e .1) (e .2); weight = e .3 ∙ w; count = e .4 ∙ n }
+says-pair net t links u v e w n = record {
+  tree = e .of-tree;
+  handle = ap₂ chosen (e .lesser) (e .greater);
+  weight = e .weighs ∙ w;
+  count = e .counts ∙ n;
+}
 
 -- ---- by fewer nodes
 

@@ -12,8 +12,10 @@
 --   chosen e f               the handle that two link numbers name: one link where they are equal
 --   Says found c             `found` says the tree, the handle, the weight and the number of nodes of c
 --   shown found              a candidate that it says, with no side
+--   Paired i a b w n found   `found` is of tree i, its two links are a and b in their order, and w and n are its weight and its number of nodes
+--   noWeight                 the largest number of eight bytes: no candidate of a network is so heavy
 --   unfound                  where a search starts: a candidate heavier than any of a network
-use Prim.Native.Nat.{ℕ, suc}
+use Prim.Native.Nat.{ℕ, suc, _-_, _^_, min, max}
 use mathlib.Core.Path.{_≡_}
 use mathlib.Core.Logic.{_⊎_}
 use mathlib.Core.Bool.{Bool, true, false, cond}
@@ -81,5 +83,15 @@ pub record Says (found : Found) (c : Candidate) : Type 0 where
 abbrev pub shown : Found → Candidate
 shown found = record { tree = found .tree; handle = chosen (found .first) (found .second); weight = found .weight; count = found .count; side = [] }
 
+pub record Paired (tree a b weight count : ℕ) (found : Found) : Type 0 where
+  pub of-tree : found .tree ≡ tree
+  pub lesser : found .first ≡ min a b
+  pub greater : found .second ≡ max a b
+  pub weighs : found .weight ≡ weight
+  pub counts : found .count ≡ count
+
+abbrev pub noWeight : ℕ
+noWeight = 2 ^ 64 - 1
+
 abbrev pub unfound : Candidate
-unfound = record { tree = 0; handle = one 0; weight = 18_446_744_073_709_551_615; count = 0; side = [] }
+unfound = record { tree = 0; handle = one 0; weight = noWeight; count = 0; side = [] }

@@ -2,9 +2,11 @@
 // second link. These decide between any two candidates of a network, so that it does not matter in which order they are visited.
 ghost use mathlib.Core.Path.{_≡_};
 ghost use mathlib.Core.Bool.{cond};
-ghost use Prim.Native.Nat.{min, max};
 ghost use Rattle.cuts.specs.Candidate.{Candidate, fewerNodes, ahead};
-ghost use Rattle.search_order.specs.Choice.{rest, comesFirst, chosen, Says, shown};
+ghost use Rattle.search_order.specs.Choice.{rest, comesFirst, chosen, Says, shown, Paired, unfound};
+
+// More than any candidate weighs.
+const NO_WEIGHT: u64 = 18446744073709551615;
 
 // A candidate: the tree, its one or two links, which are equal where there is one, the weight and the number of nodes in the side.
 pub struct Found {
@@ -46,7 +48,8 @@ pub fn comes_first(a: Found, b: Found) -> bool
 
 // The one of two candidates that comes first; of even ones the one found before.
 pub fn choose(before: Found, tried: Found) -> Found
-    ensures { λ r. ⌜ ((c d : Candidate) → Says before c → Says tried d → Says r (cond (comesFirst (ahead fewerNodes) d c) d c)) ⌝ }
+    ensures { λ r. ⌜ ((c d : Candidate) → Says before c → Says tried d
+        → Says r (cond (comesFirst (ahead fewerNodes) d c) d c)) ⌝ }
 {
     if comes_first(tried, before) {
         return tried;
@@ -56,7 +59,7 @@ pub fn choose(before: Found, tried: Found) -> Found
 
 // The candidate of two links of a tree in either order, or of one link given twice, with its weight and the number of nodes in its side.
 pub fn pair_of(tree: u8, a: u16, b: u16, weight: u64, count: u16) -> Found
-    ensures { λ r. ⌜ (r .tree ≡ tree) × (r .first ≡ min a b) × (r .second ≡ max a b) × (r .weight ≡ weight) × (r .count ≡ count) ⌝ }
+    ensures { λ r. ⌜ Paired tree a b weight count r ⌝ }
 {
     if a < b {
         return Found {
@@ -73,5 +76,18 @@ pub fn pair_of(tree: u8, a: u16, b: u16, weight: u64, count: u16) -> Found
         second: a,
         weight: weight,
         count: count,
+    }
+}
+
+// Where a search starts: no candidate yet, so that any one comes before it.
+pub fn unfound() -> Found
+    ensures { λ r. ⌜ Says r unfound ⌝ }
+{
+    Found {
+        tree: 0,
+        first: 0,
+        second: 0,
+        weight: NO_WEIGHT,
+        count: 0,
     }
 }

@@ -9,15 +9,19 @@ use lib.Seq.{drop-drop}
 use Rattle.cuts.specs.Sums.{countTo}
 use Rattle.cuts.specs.Network.{Link, Tree, noTree, linkAt, linkCount, treeAt}
 use Rattle.cuts.specs.Tree.{Spanning, Sound}
+use Rattle.cuts.specs.Limits.{mostLinks, mostTrees}
 use Rattle.cuts.proofs.SumLaws.{table-length, table-at}
 use Rattle.arrays.specs.Lists.{entry, part}
-use Rattle.arrays.specs.Links.{EndArrays, Laid, linksOf, Ending}
+use Rattle.arrays.specs.Links.{Laid, linksOf}
 use Rattle.tree_growth.proofs.RunLaws.{held-ending}
 use Rattle.sheet.specs.Bytes.{Bytes, mapBit}
 use Rattle.sheet.specs.Sheet.{Format, Counts, treeLength, treeIn, network, Accepted}
 use Rattle.sheet.proofs.Acceptance.{members-counted}
 use Rattle.read_links.proofs.LinksLaws.{linksOf-length, linksOf-at}
-use Rattle.arrays.specs.Records.{treesFrom, networkAt}
+use Rattle.arrays.specs.Records.{treesFrom, networkAt, recordAt, SheetHeld}
+use Rattle.read_sheet.specs.TreesRead.{LinksKnown}
+use Rattle.read_sheet.proofs.TreeLaws.{record-inside}
+use Rattle.search_sheet.specs.SheetTrees.{RecordHeld}
 
 -- which trees are listed does not matter to what a record says
 treeIn-any : (nodes : ℕ) (links : List Link) (ts us : List Tree) (bs : Bytes) → treeIn (network nodes links ts) bs ≡ treeIn (network nodes links us) bs
@@ -39,10 +43,10 @@ module _ (s : Bytes) (ends : List (List ℕ)) (ws : List ℕ) (c : Counts) (at :
       ∙ treeIn-any (c .nodes) links [] (networkAt s ends ws c at .trees) (drop (at + i * treeLength (c .links)) s)
 
   module _ {f : Format} (a : Accepted f (networkAt s ends ws c at)) where
-    pub networkAt-links-most : c .links ≤ 2048
+    pub networkAt-links-most : c .links ≤ mostLinks
     networkAt-links-most = let e = linksOf-length (c .links) (part ends 0) (part ends 1) ws in let b = a .links-most in omega arith
 
-    pub networkAt-trees-most : c .trees ≤ 32
+    pub networkAt-trees-most : c .trees ≤ mostTrees
     networkAt-trees-most = let e = networkAt-trees in let b = a .trees-most in omega arith
 
   module _ (v : Sound (networkAt s ends ws c at)) where
@@ -72,9 +76,25 @@ module _ (s : Bytes) (ends : List (List ℕ)) (ws : List ℕ) (c : Counts) (at :
           ∙ ap (λ (m : ℕ). countTo m (mapBit (drop 4 (drop p s)))) (sym (linksOf-length (c .links) (part ends 0) (part ends 1) ws))
           ∙ sym (members-counted (networkAt s ends ws c at) (drop p s)) ∙ networkAt-spanning .counted
 
-  -- the arrays have all links' ends, and they are nodes
-  pub networkAt-ending : {f : Format} → Accepted f (networkAt s ends ws c at) → EndArrays ends → (k : ℕ) → k < c .links → Ending (part ends 0) (part ends 1) (c .nodes) k
-  networkAt-ending a e k b =
-      let n = linksOf-length (c .links) (part ends 0) (part ends 1) ws in
-      let m = networkAt-links-most a in
-      held-ending (networkAt-laid (a .sound) .held) (omega (arith, n, e .firsts)) (omega (arith, n, e .seconds)) k (omega (arith, n))
+  module _ {f : Format} (h : SheetHeld f s ends ws c at) where
+    -- the arrays have all links' ends, and they are nodes
+    pub links-known : LinksKnown (c .nodes) (c .links) ends
+    links-known =
+        let a = h .accepted in
+        let n = linksOf-length (c .links) (part ends 0) (part ends 1) ws in
+        let m = networkAt-links-most a in
+        let e = h .arrays .ends-room in
+        record {
+          some = omega (arith, a .sound .several);
+          few-nodes = a .nodes-most;
+          few-links = m;
+          known = λ k b. held-ending (networkAt-laid (a .sound) .held) (omega (arith, n, e .firsts)) (omega (arith, n, e .seconds)) k (omega (arith, n));
+        }
+
+    -- the record of each tree
+    pub record-held : (i : ℕ) → i < c .trees → RecordHeld s (recordAt c at i) c ends
+    record-held i b = record {
+      inside = record-inside at (c .trees) (treeLength (c .links)) (length s) i (h .inside) b;
+      counted = networkAt-counted (h .accepted .sound) i b;
+      links-known = links-known;
+    }

@@ -28,7 +28,7 @@ use Rattle.sheet.specs.Bytes.{Bytes}
 use Rattle.sheet.specs.Reading.{accepted, refused, numberOf}
 use Rattle.sheet.specs.Sheet.{Format, base, wide, tolerant, trunked, current, decode, sheetMost}
 use Rattle.sheet.specs.Trunks.{trunks}
-use Rattle.sheet.specs.Plain.{plain}
+use Rattle.sheet.proofs.Plain.{plain}
 use Rattle.sheet.specs.Areas.{sideBytes, reportBytes, sideAfter, reportAfter, answerRead, firstLink, secondLink}
 
 -- ---- sheets of small numbers: a header, link records with all fields, without and with a trunk number, and a tree record with a map of

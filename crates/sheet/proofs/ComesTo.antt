@@ -10,7 +10,7 @@ use Rattle.cuts.proofs.FlagLaws.{clash, neither, truth}
 use Rattle.sheet.specs.Bytes.{Bytes}
 use Rattle.sheet.specs.Reading.{Reading, accepted, refused, andThen, records}
 use Rattle.sheet.specs.Sheet.{Format, Counts, headerRecord, nextLink, treesBehind, decodeBody, decode}
-use Rattle.sheet.specs.Plain.{whenRead, comesTo, linkComesTo}
+use Rattle.sheet.proofs.Plain.{whenRead, comesTo, linkComesTo}
 
 module _ {A : Type 0} (test : List A → Bytes → Bool) (one two : List A → Bytes → Reading A)
     (same : (got : List A) (bs : Bytes) → test got bs ≡ false → two got bs ≡ one got bs) where

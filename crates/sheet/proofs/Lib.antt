@@ -6,6 +6,7 @@ pub mod Sizes
 pub mod Raised
 pub mod Ruled
 pub mod Longest
+pub mod Plain
 pub mod ComesTo
 pub mod MarkLaws
 pub mod PlainRecords

@@ -17,7 +17,7 @@ use Rattle.cuts.proofs.FlagLaws.{clash, truth}
 use Rattle.sheet.specs.Bytes.{Bytes, bit}
 use Rattle.sheet.specs.Reading.{Check, check, firstFailing, accepted, refused, unless}
 use Rattle.sheet.specs.Sheet.{Format, tolerant, trunked, mapByte, fieldStart, recordLength, field, linkIn, wrongMap, shapeChecks, valueChecks, linkRecord, nextLink, decode}
-use Rattle.sheet.specs.Plain.{trunkMarked, marked}
+use Rattle.sheet.proofs.Plain.{trunkMarked, marked}
 use Rattle.sheet.proofs.ComesTo.{decode-stopped, linkComesTo-same, decode-same}
 
 -- ---- map bytes

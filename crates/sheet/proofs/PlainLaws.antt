@@ -17,7 +17,7 @@ use Rattle.cuts.proofs.FlagLaws.{clash, neither, truth}
 use Rattle.sheet.specs.Bytes.{Bytes}
 use Rattle.sheet.specs.Reading.{check, firstFailing, Reading, accepted, refused, numberOf, unless, andThen, records}
 use Rattle.sheet.specs.Sheet.{tolerant, trunked, current, Counts, countsIn, countChecks, headerRecord, fieldStart, recordLength, linkIn, valueChecks, linkRecord, nextLink, treesBehind, decodeBody, decode, wrongMap}
-use Rattle.sheet.specs.Plain.{trunkMarked, whenRead, comesTo, linkComesTo, marked, trunkCut, cutOff, unmarked, plainRecord, plainLinks, plain}
+use Rattle.sheet.proofs.Plain.{trunkMarked, whenRead, comesTo, linkComesTo, marked, trunkCut, cutOff, unmarked, plainRecord, plainLinks, plain}
 use Rattle.sheet.proofs.Ruled.{decode-ruled}
 use Rattle.sheet.proofs.ReadingLaws.{unless-accepted, Never, unless-never, andThen-never, never-number}
 use Rattle.sheet.proofs.Acceptance.{trees-never}

@@ -20,7 +20,7 @@ use Rattle.cuts.proofs.SumLaws.{sum-congr, sum-less}
 use Rattle.sheet.specs.Bytes.{Bytes, number, bit}
 use Rattle.sheet.specs.Reading.{check, firstFailing, Reading, accepted, refused, numberOf, unless}
 use Rattle.sheet.specs.Sheet.{Format, tolerant, trunked, fieldStart, recordLength, field, linkIn, wrongMap, shapeChecks, valueChecks, linkRecord}
-use Rattle.sheet.specs.Plain.{unmarked}
+use Rattle.sheet.proofs.Plain.{unmarked}
 use Rattle.sheet.proofs.Longest.{number-front, drop-front}
 use Rattle.sheet.proofs.MarkLaws.{bit-set, bit-clear, recordLength-trunk, linkIn-trunk}
 

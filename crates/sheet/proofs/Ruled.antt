@@ -8,29 +8,26 @@ use Rattle.cuts.specs.Network.{Network, linkCount}
 use Rattle.cuts.specs.Answer.{Rules}
 use Rattle.sheet.specs.Bytes.{Bytes}
 use Rattle.sheet.specs.Reading.{Reading, accepted, andThen}
-use Rattle.sheet.specs.Sheet.{Format, fieldStart, field, linkIn, shapeChecks, valueChecks, linkRecord, decodeBody, decode}
+use Rattle.sheet.specs.Sheet.{Format, ruled, fieldStart, field, linkIn, shapeChecks, valueChecks, linkRecord, decodeBody, decode}
 use Rattle.sheet.specs.Trunks.{trunksFrom, trunks}
-use Rattle.sheet.specs.Plain.{linkComesTo, marked}
+use Rattle.sheet.proofs.Plain.{linkComesTo, marked}
 
 module _ (f : Format) (rules : Rules) where
-  abbrev ruled : Format
-  ruled = record { widths = f .widths; weightLimit = f .weightLimit; sumWidth = f .sumWidth; rules = rules }
-
   module _ (sheet : Bytes) where
-    pub decode-ruled : decode ruled sheet ≡ decode f sheet
+    pub decode-ruled : decode (ruled rules f) sheet ≡ decode f sheet
     unfolding decode decodeBody linkRecord linkIn field fieldStart shapeChecks valueChecks
     decode-ruled = refl
 
-    pub marked-ruled : marked ruled sheet ≡ marked f sheet
+    pub marked-ruled : marked (ruled rules f) sheet ≡ marked f sheet
     unfolding linkComesTo linkRecord linkIn field fieldStart shapeChecks valueChecks
     marked-ruled = refl
 
-    pub trunks-ruled : trunks ruled sheet ≡ trunks f sheet
+    pub trunks-ruled : trunks (ruled rules f) sheet ≡ trunks f sheet
     unfolding trunks trunksFrom field fieldStart
     trunks-ruled =
-        ap (λ (r : Reading Network). andThen r (λ net end. accepted (trunksFrom ruled (linkCount net) 0 (drop 5 sheet)) end)) decode-ruled
+        ap (λ (r : Reading Network). andThen r (λ net end. accepted (trunksFrom (ruled rules f) (linkCount net) 0 (drop 5 sheet)) end)) decode-ruled
         ∙ ap (andThen (decode f sheet)) (λ i net end. accepted (same (linkCount net) 0 (drop 5 sheet) i) end)
       where
-        same : (k before : ℕ) (bs : Bytes) → trunksFrom ruled k before bs ≡ trunksFrom f k before bs
+        same : (k before : ℕ) (bs : Bytes) → trunksFrom (ruled rules f) k before bs ≡ trunksFrom f k before bs
         same zero before bs = refl
         same (suc k) before bs = ap (λ (ts : List ℕ). field f 3 before bs ∷ ts) (same k _ _)

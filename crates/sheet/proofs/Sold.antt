@@ -23,7 +23,7 @@ use Rattle.sheet.specs.Reading.{accepted, refused, numberOf}
 use Rattle.sheet.specs.Sheet.{base, wide, tolerant, trunked, current, decode}
 use Rattle.sheet.specs.Areas.{reportBytes, reportAfter}
 use Rattle.sheet.specs.Trunks.{trunks}
-use Rattle.sheet.specs.Plain.{marked}
+use Rattle.sheet.proofs.Plain.{marked}
 use Rattle.sheet.proofs.Sizes.{decode-light, decode-below}
 use Rattle.sheet.proofs.Agree.{Agree}
 use Rattle.sheet.proofs.Raised.{decode-raised}

@@ -12,7 +12,7 @@ use Rattle.sheet.specs.Bytes.{Bytes}
 use Rattle.sheet.specs.Reading.{Reading, accepted, refused, numberOf, andThen, records}
 use Rattle.sheet.specs.Sheet.{Format, Counts, recordLength, field, nextLink, decode}
 use Rattle.sheet.specs.Trunks.{trunksFrom, trunks}
-use Rattle.sheet.specs.Plain.{trunkMarked, whenRead, comesTo, linkComesTo, marked}
+use Rattle.sheet.proofs.Plain.{trunkMarked, whenRead, comesTo, linkComesTo, marked}
 use Rattle.sheet.proofs.ReadingLaws.{andThen-accepted}
 use Rattle.sheet.proofs.Acceptance.{decode-parts, links-counted}
 use Rattle.sheet.proofs.Sizes.{linkRecord-is, headerRecord-is}

@@ -9,6 +9,8 @@
 --   written new old            an area that held `old`, with `new` written to its front: the rest stands as it stood
 --   sideAfter f net old        the side area after the answer of the network is written
 --   reportAfter f net old      the report area after it
+--   sideLeft f old r           a side area that held `old`, where r was read: the answer is written if a network was
+--   reportLeft f old r         the same of a report area
 --   sideRead nodes area        the side that stands in a side area
 --   handleOf e f               the handle whose links these are
 --   answerOf fs s              the answer with the fields fs and the side s
@@ -24,6 +26,7 @@ use Rattle.cuts.specs.Cut.{Side}
 use Rattle.cuts.specs.Candidate.{Handle, one, two}
 use Rattle.cuts.specs.Answer.{Answer, reported, answer}
 use Rattle.sheet.specs.Bytes.{Bytes, fields, fieldBytes, mapBit, byteOf}
+use Rattle.sheet.specs.Reading.{Reading, accepted, refused}
 use Rattle.sheet.specs.Sheet.{Format}
 
 abbrev pub sideLength : ℕ
@@ -67,6 +70,14 @@ sideAfter f net old = written (sideBytes (reported (f .rules .rank) net .side)) 
 
 abbrev pub reportAfter : Format → Network → Bytes → Bytes
 reportAfter f net old = written (reportBytes f (answer (f .rules) net)) old
+
+abbrev pub sideLeft : Format → Bytes → Reading Network → Bytes
+sideLeft f old (accepted net rest) = sideAfter f net old
+sideLeft f old (refused n) = old
+
+abbrev pub reportLeft : Format → Bytes → Reading Network → Bytes
+reportLeft f old (accepted net rest) = reportAfter f net old
+reportLeft f old (refused n) = old
 
 -- ---- reading back
 

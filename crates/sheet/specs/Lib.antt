@@ -3,4 +3,3 @@ pub mod Reading
 pub mod Sheet
 pub mod Areas
 pub mod Trunks
-pub mod Plain

@@ -2,6 +2,7 @@
 -- "Why a sheet is turned down"). Assumes nothing.
 --   Format                       the widths of the fields behind a map byte, one for each bit of the map; the largest weight; the bytes
 --                                that the report area has for the weight of a side and for the floor, each; and the rules of answers
+--   ruled rules f                the format f with other rules
 --   base                         document 01's format, of units already sold
 --   wide                         the format of request F-2
 --   tolerant                     the format of request F-3
@@ -59,6 +60,9 @@ pub record Format : Type 0 where
   pub sumWidth : ℕ
   pub rules : Rules
 
+abbrev pub ruled : Rules → Format → Format
+ruled rules f = record { widths = f .widths; weightLimit = f .weightLimit; sumWidth = f .sumWidth; rules = rules }
+
 abbrev pub base : Format
 base = record { widths = 2 ∷ 2 ∷ 4 ∷ []; weightLimit = 1_000_000; sumWidth = 4; rules = record { counting = allOrNone; rank = alike } }
 
@@ -68,12 +72,7 @@ wide = record { widths = base .widths; weightLimit = 4_294_967_295; sumWidth = 8
 
 -- "From now on the trees that count are the longest run from tree 0 on that loads no link past its weight"
 abbrev pub tolerant : Format
-tolerant = record {
-  widths = wide .widths;
-  weightLimit = wide .weightLimit;
-  sumWidth = wide .sumWidth;
-  rules = record { counting = longestRun; rank = wide .rules .rank };
-}
+tolerant = ruled (record { counting = longestRun; rank = alike }) wide
 
 -- "Bit 3 of a link's map adds a 2-byte trunk number after the weight"
 abbrev pub trunked : Format
@@ -81,12 +80,7 @@ trunked = record { widths = 2 ∷ 2 ∷ 4 ∷ 2 ∷ []; weightLimit = tolerant .
 
 -- "so the order is weight, fewer nodes in the side, tree, first link, single before pair, second link"
 abbrev pub smallFirst : Format
-smallFirst = record {
-  widths = trunked .widths;
-  weightLimit = trunked .weightLimit;
-  sumWidth = trunked .sumWidth;
-  rules = record { counting = trunked .rules .counting; rank = fewerNodes };
-}
+smallFirst = ruled (record { counting = trunked .rules .counting; rank = fewerNodes }) trunked
 
 abbrev pub current : Format
 current = smallFirst

@@ -8,16 +8,13 @@ use by_node::list_by_node;
 use format::limits::MOST_NODES;
 ghost use mathlib.Core.Path.{_≡_};
 ghost use mathlib.Core.Bool.{cond};
-ghost use mathlib.Core.List.{List};
-ghost use Prim.Native.Nat.{ℕ, _≤_, _<_};
-ghost use lib.ListN.{length};
 ghost use lib.Dec.{eqb};
 ghost use Rattle.cuts.specs.Network.{Network, Tree};
 ghost use Rattle.cuts.specs.Candidate.{memberLinks};
-ghost use Rattle.arrays.specs.Lists.{entry};
-ghost use Rattle.arrays.specs.Links.{Held, Ending};
+ghost use Rattle.arrays.specs.Links.{Held};
 ghost use Rattle.arrays.specs.Grown.{Given, GrownTree};
 ghost use Rattle.arrays.specs.ByNode.{ByNode, starts, listed};
+ghost use Rattle.tree_growth.specs.Growing.{Growable, Queueable};
 
 // The numbers that list the members of a tree by node.
 const MEMBER_LISTS: usize = STARTS + 2 * MOST_NODES;
@@ -44,16 +41,15 @@ fn grow_queue(
     order: &mut [u8],
     parents: &mut [u8],
     uplinks: &mut [u16],
+    nodes: usize,
     firsts: &[u8],
     seconds: &[u8],
     lists: &[u16],
-    nodes: usize,
 ) -> bool
-    requires { ⌜ (length (now order) ≡ 256) × (length (now parents) ≡ 256) × (length (now uplinks) ≡ 256) ⌝ }
-    requires { ⌜ (0 < nodes) × (nodes ≤ 256) × (257 ≤ length (now lists)) ⌝ }
-    requires { ⌜ ((ks : List ℕ) × ByNode (now firsts) (now seconds) ks (starts (now lists)) (listed (now lists)) nodes) ⌝ }
+    requires { ⌜ Queueable (now order) (now parents) (now uplinks) nodes (now firsts) (now seconds) (now lists) ⌝ }
     ensures { λ r. ⌜ ((net : Network) (t : Tree) → Held net (now (firsts .entry)) (now (seconds .entry)) nodes
-        → ByNode (now (firsts .entry)) (now (seconds .entry)) (memberLinks net t) (starts (now (lists .entry))) (listed (now (lists .entry))) nodes
+        → ByNode (now (firsts .entry)) (now (seconds .entry)) (memberLinks net t)
+        (starts (now (lists .entry))) (listed (now (lists .entry))) nodes
         → GrownTree net t (now (order .exit)) (now (parents .exit)) (now (uplinks .exit)) r) ⌝ }
 {
     let head = &lists[0..STARTS];
@@ -88,14 +84,20 @@ fn grow_queue(
 }
 
 // Grows a tree from the list of its members, the first `count` numbers of `members`.
-pub fn grow(firsts: &[u8], seconds: &[u8], members: &[u16], count: usize, nodes: usize) -> Grown
-    requires { ⌜ (0 < nodes) × (nodes ≤ 256) × (count ≤ length (now members)) × (count ≤ 256) ⌝ }
-    requires { ⌜ ((i : ℕ) → i < count → Ending (now firsts) (now seconds) nodes (entry (now members) i)) ⌝ }
-    ensures { λ r. ⌜ ((net : Network) (t : Tree) → Given net t (now (firsts .entry)) (now (seconds .entry)) (now (members .entry)) count nodes
+pub fn grow(
+    nodes: usize,
+    firsts: &[u8],
+    seconds: &[u8],
+    members: &[u16; MOST_NODES],
+    count: usize,
+) -> Grown
+    requires { ⌜ Growable (now firsts) (now seconds) (now members) count nodes ⌝ }
+    ensures { λ r. ⌜ ((net : Network) (t : Tree)
+        → Given net t (now (firsts .entry)) (now (seconds .entry)) (now (members .entry)) count nodes
         → GrownTree net t (r .order) (r .parents) (r .uplinks) (r .joined)) ⌝ }
 {
     let mut lists = [0u16; MEMBER_LISTS];
-    list_by_node(&mut lists, firsts, seconds, members, count, nodes);
+    list_by_node(&mut lists, nodes, firsts, seconds, members, count);
     let mut order = [0u8; MOST_NODES];
     let mut parents = [0u8; MOST_NODES];
     let mut uplinks = [0u16; MOST_NODES];
@@ -103,10 +105,10 @@ pub fn grow(firsts: &[u8], seconds: &[u8], members: &[u16], count: usize, nodes:
         &mut order,
         &mut parents,
         &mut uplinks,
+        nodes,
         firsts,
         seconds,
         &lists,
-        nodes,
     );
     Grown {
         joined: joined,

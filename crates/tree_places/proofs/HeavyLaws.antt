@@ -11,6 +11,7 @@ use lib.Seq.{getD-set-same, getD-set-other}
 use lib.Dec.{eqb, ltb}
 use borrow.Author.Tests.{eqb-true, eqb-false, ltb-true, ltb-false}
 use Rattle.cuts.specs.Network.{Tree, Network}
+use Rattle.cuts.specs.Limits.{mostNodes}
 use Rattle.cuts.proofs.FlagLaws.{truth}
 use Rattle.cuts.proofs.SumLaws.{all-suc}
 use Rattle.arrays.specs.Lists.{entry}
@@ -33,7 +34,7 @@ heavier-picked sizes h x = go (truth (eqb h 0)) (truth (ltb (entry sizes h) (ent
     go (inr p) (inl q) = let l = ltb-true (entry sizes h) (entry sizes x) q in rw (p, q) (record { one = inr refl; over = λ _. omega arith; even = omega arith })
     go (inr p) (inr q) = let l = ltb-false (entry sizes h) (entry sizes x) q in rw (p, q) (record { one = inl (eqb-false h 0 p, refl); over = λ _. omega arith; even = omega arith })
 
-pub heavy-start : (order parents sizes heavy : List ℕ) (i : ℕ) → i ≤ 1 → ((x : ℕ) → x < 256 → entry heavy x ≡ 0) → Heavy order parents sizes heavy i
+pub heavy-start : (order parents sizes heavy : List ℕ) (i : ℕ) → i ≤ 1 → ((x : ℕ) → x < mostNodes → entry heavy x ≡ 0) → Heavy order parents sizes heavy i
 heavy-start order parents sizes heavy i l h = record {
   child = λ v b f. absurd (f (h v b));
   some = λ j z b. absurd (omega arith);
@@ -41,7 +42,7 @@ heavy-start order parents sizes heavy i l h = record {
 }
 
 module _ {net : Network} {t : Tree} {order parents uplinks : List ℕ} (o : Ordered net t order parents uplinks) (sizes : List ℕ) where
-  heavy-step : (heavy : List ℕ) (i : ℕ) → 0 < i → i < net .nodes → net .nodes ≤ length heavy → net .nodes ≤ 256 → Heavy order parents sizes heavy i
+  heavy-step : (heavy : List ℕ) (i : ℕ) → 0 < i → i < net .nodes → net .nodes ≤ length heavy → net .nodes ≤ mostNodes → Heavy order parents sizes heavy i
       → Heavy order parents sizes (set heavy (entry parents (entry order i)) (heavier sizes (entry heavy (entry parents (entry order i))) (entry order i))) (suc i)
   heavy-step heavy i z b l m w = record {
     child = λ v c. first v c (truth (eqb p v));
@@ -72,7 +73,7 @@ module _ {net : Network} {t : Tree} {order parents uplinks : List ℕ} (o : Orde
       off-p : (v : ℕ) → eqb p v ≡ false → entry new v ≡ entry heavy v
       off-p v q = getD-set-other heavy p v r 0 (λ e. eqb-false p v q (sym e))
 
-      first : (v : ℕ) → v < 256 → (eqb p v ≡ true) ⊎ (eqb p v ≡ false) → (entry new v ≡ 0 → ⊥)
+      first : (v : ℕ) → v < mostNodes → (eqb p v ≡ true) ⊎ (eqb p v ≡ false) → (entry new v ≡ 0 → ⊥)
           → (j : ℕ) × (0 < j) × (j < suc i) × (entry order j ≡ entry new v) × (entry parents (entry order j) ≡ v)
       first v c (inl q) f = let e = eqb-true p v q in let n : entry new v ≡ r = ap (entry new) (sym e) ∙ at-p in from n e (pick .one)
         where
@@ -105,7 +106,7 @@ module _ {net : Network} {t : Tree} {order parents uplinks : List ℕ} (o : Orde
           omega arith
       most-old j c y (inr q) = rw (off-p (entry parents (entry order j)) q) (w .most j y c)
 
-  heavy-done : (heavy : List ℕ) (i : ℕ) → net .nodes ≤ 256 → i ≡ net .nodes → Heavy order parents sizes heavy i → Heaviest net parents sizes heavy
+  heavy-done : (heavy : List ℕ) (i : ℕ) → net .nodes ≤ mostNodes → i ≡ net .nodes → Heavy order parents sizes heavy i → Heaviest net parents sizes heavy
   heavy-done heavy i l q w = record {
     child = λ v b f. let k = w .child v (omega arith) f in
         let m : k .0 < net .nodes = omega (arith, k .2) in
@@ -122,12 +123,12 @@ module _ {net : Network} {t : Tree} {order parents uplinks : List ℕ} (o : Orde
         rw (d .is, k .is) at a;
   }
 
--- ---- the pass over lists of 256 numbers
+-- ---- the pass over lists of mostNodes numbers
 
 module _ {net : Network} {t : Tree} {order parents uplinks : List ℕ} {nodes : ℕ} (r : Rooted net t order parents uplinks nodes) where
-  pub heavy-turn : (sizes heavy : List ℕ) (i : ℕ) → 0 < i → i < nodes → nodes ≤ 256 → length heavy ≡ 256 → Heavy order parents sizes heavy i
+  pub heavy-turn : (sizes heavy : List ℕ) (i : ℕ) → 0 < i → i < nodes → nodes ≤ mostNodes → length heavy ≡ mostNodes → Heavy order parents sizes heavy i
       → Heavy order parents sizes (set heavy (entry parents (entry order i)) (heavier sizes (entry heavy (entry parents (entry order i))) (entry order i))) (suc i)
   heavy-turn sizes heavy i z b m l w = let e = r .counted in heavy-step (r .ordered) sizes heavy i z (omega arith) (omega arith) (omega arith) w
 
-  pub heavy-last : (sizes heavy : List ℕ) (i : ℕ) → nodes ≤ 256 → i ≡ nodes → Heavy order parents sizes heavy i → Heaviest net parents sizes heavy
+  pub heavy-last : (sizes heavy : List ℕ) (i : ℕ) → nodes ≤ mostNodes → i ≡ nodes → Heavy order parents sizes heavy i → Heaviest net parents sizes heavy
   heavy-last sizes heavy i m q w = let e = r .counted in heavy-done (r .ordered) sizes heavy i (omega arith) (omega arith) w

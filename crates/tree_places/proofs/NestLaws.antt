@@ -13,7 +13,7 @@ use Rattle.cuts.specs.Tree.{Spanning}
 use Rattle.arrays.specs.Lists.{entry}
 use Rattle.arrays.specs.Order.{Ordered}
 use Rattle.arrays.proofs.OrderLaws.{Spot, spot, parent-in}
-use Rattle.tree_places.specs.Places.{Rooted, Child, Sized, Heaviest, Preorder, HeavyFirst}
+use Rattle.tree_places.specs.Places.{Rooted, Child, Sized, Heaviest, Preorder, HeavyFirst, HeavyPreorder}
 use Rattle.tree_places.specs.Passes.{child, shift, Placing}
 use Rattle.tree_places.proofs.ShiftLaws.{shift-inside, shift-apart}
 use Rattle.tree_places.proofs.PreorderLaws.{Apart, nesting-preorder}
@@ -96,8 +96,8 @@ module _ {net : Network} {t : Tree} {order parents uplinks sizes heavy : List �
             omega arith
 
   pub placing-last : (i : ℕ) (place stop free : List ℕ) → i ≡ nodes → Placing net order parents sizes heavy i place stop free
-      → Preorder net t uplinks place stop × HeavyFirst net heavy place
+      → HeavyPreorder net t uplinks heavy place stop
   placing-last i place stop free q w =
       let e : i ≡ net .nodes = q ∙ sym (r .counted) in
       let v : Placing net order parents sizes heavy (net .nodes) place stop free = subst (λ (n : ℕ). Placing net order parents sizes heavy n place stop free) e w in
-      (placing-preorder v, placing-heavy v)
+      record { preorder = placing-preorder v; heavy-first = placing-heavy v }

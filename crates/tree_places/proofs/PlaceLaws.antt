@@ -13,13 +13,14 @@ use lib.Dec.{eqb}
 use borrow.Author.Tests.{eqb-true, eqb-false}
 use Rattle.cuts.specs.Sums.{only}
 use Rattle.cuts.specs.Network.{Tree, Network}
+use Rattle.cuts.specs.Limits.{mostNodes}
 use Rattle.cuts.specs.Tree.{Spanning}
 use Rattle.cuts.proofs.FlagLaws.{truth}
 use Rattle.cuts.proofs.SumLaws.{all-suc}
 use Rattle.arrays.specs.Lists.{entry}
 use Rattle.arrays.specs.Order.{Ordered}
 use Rattle.arrays.proofs.OrderLaws.{parent-in, not-root}
-use Rattle.tree_places.specs.Places.{Rooted, Sized, Heaviest}
+use Rattle.tree_places.specs.Places.{stopNumbers, Rooted, Sized, Heaviest}
 use Rattle.tree_places.specs.Passes.{sizeIn, ahead, shift, seat, freed, Placing}
 use Rattle.tree_places.proofs.SmallLaws.{small}
 use Rattle.tree_places.proofs.ShiftLaws.{ahead-suc, ahead-none, sizes-split, sizes-some, sizes-root, shift-inside}
@@ -167,19 +168,19 @@ module _ {net : Network} {t : Tree} {order parents uplinks sizes heavy : List �
             (rw (new, ahead-none r s m i b) (free-new ∙ omega arith));
       }
 
-  -- ---- the pass over lists of 256 numbers, with sums to 256
+  -- ---- the pass over lists of mostNodes numbers, with sums to mostNodes
 
-  module _ (b : nodes ≤ 256) where
-    pub placing-first : (place stop free : List ℕ) → length place ≡ 256 → length stop ≡ 256 → length free ≡ 256
-        → Placing net order parents sizes heavy 1 (set place 0 0) (set stop 0 ((0 + entry sizes 0) % 257)) (set free 0 ((1 + sizeIn sizes (entry heavy 0)) % 257))
+  module _ (b : nodes ≤ mostNodes) where
+    pub placing-first : (place stop free : List ℕ) → length place ≡ mostNodes → length stop ≡ mostNodes → length free ≡ mostNodes
+        → Placing net order parents sizes heavy 1 (set place 0 0) (set stop 0 ((0 + entry sizes 0) % stopNumbers)) (set free 0 ((1 + sizeIn sizes (entry heavy 0)) % stopNumbers))
     placing-first place stop free k l n =
         let e = r .counted in
         let z = r .spanning .linked .rooted in
         let c = sizes-root r s m in
         let d = sizes-split r s m 0 z in
         placing-start 1 _ _ _ refl (getD-set-same place 0 0 0 (omega arith))
-        (getD-set-same stop 0 ((0 + entry sizes 0) % 257) 0 (omega arith) ∙ small (0 + entry sizes 0) (omega arith) ∙ omega arith)
-        (getD-set-same free 0 ((1 + sizeIn sizes (entry heavy 0)) % 257) 0 (omega arith) ∙ small (1 + sizeIn sizes (entry heavy 0)) (omega arith))
+        (getD-set-same stop 0 ((0 + entry sizes 0) % stopNumbers) 0 (omega arith) ∙ small (0 + entry sizes 0) (omega arith) ∙ omega arith)
+        (getD-set-same free 0 ((1 + sizeIn sizes (entry heavy 0)) % stopNumbers) 0 (omega arith) ∙ small (1 + sizeIn sizes (entry heavy 0)) (omega arith))
 
     module _ (i : ℕ) (place stop free : List ℕ) (z : 0 < i) (c : i < nodes) (w : Placing net order parents sizes heavy i place stop free) where
       abbrev at-x : ℕ
@@ -191,27 +192,27 @@ module _ {net : Network} {t : Tree} {order parents uplinks sizes heavy : List �
       in-net : i < net .nodes
       in-net = let e = r .counted in omega arith
 
-      -- the free place moved on is within 256
-      freed-small : cond (eqb (entry heavy at-p) at-x) free (set free at-p ((entry free at-p + entry sizes at-x) % 257)) ≡ freed heavy sizes free at-p at-x
+      -- the free place moved on is within mostNodes
+      freed-small : cond (eqb (entry heavy at-p) at-x) free (set free at-p ((entry free at-p + entry sizes at-x) % stopNumbers)) ≡ freed heavy sizes free at-p at-x
       freed-small = go (truth (eqb (entry heavy at-p) at-x))
         where
           go : (eqb (entry heavy at-p) at-x ≡ true) ⊎ (eqb (entry heavy at-p) at-x ≡ false)
-              → cond (eqb (entry heavy at-p) at-x) free (set free at-p ((entry free at-p + entry sizes at-x) % 257)) ≡ freed heavy sizes free at-p at-x
+              → cond (eqb (entry heavy at-p) at-x) free (set free at-p ((entry free at-p + entry sizes at-x) % stopNumbers)) ≡ freed heavy sizes free at-p at-x
           go (inl q) = rw q
           go (inr q) =
               let a = freed-room w z in-net q in
               let e = r .counted in
               rw (q, small (entry free at-p + entry sizes at-x) (omega arith))
 
-      pub placing-turn : length place ≡ 256 → length stop ≡ 256 → length free ≡ 256 → (at : ℕ) → at ≡ seat heavy place free at-p at-x → (free₁ : List ℕ)
-          → free₁ ≡ cond (eqb (entry heavy at-p) at-x) free (set free at-p ((entry free at-p + entry sizes at-x) % 257))
-          → Placing net order parents sizes heavy (suc i) (set place at-x (at % 256)) (set stop at-x ((at + entry sizes at-x) % 257))
-          (set free₁ at-x (((at + 1) % 257 + sizeIn sizes (entry heavy at-x)) % 257))
+      pub placing-turn : length place ≡ mostNodes → length stop ≡ mostNodes → length free ≡ mostNodes → (at : ℕ) → at ≡ seat heavy place free at-p at-x → (free₁ : List ℕ)
+          → free₁ ≡ cond (eqb (entry heavy at-p) at-x) free (set free at-p ((entry free at-p + entry sizes at-x) % stopNumbers))
+          → Placing net order parents sizes heavy (suc i) (set place at-x (at % mostNodes)) (set stop at-x ((at + entry sizes at-x) % stopNumbers))
+          (set free₁ at-x (((at + 1) % stopNumbers + sizeIn sizes (entry heavy at-x)) % stopNumbers))
       placing-turn k l n at q free₁ f =
           let e = r .counted in
           let a = seat-room w z in-net in
           let d = child-room w z in-net in
           let h = sizes-some r s m at-x (r .ordered .listed .within i in-net) in
-          let at-small : at % 256 ≡ at = omega arith in
+          let at-small : at % mostNodes ≡ at = omega arith in
           rw (at-small, small (at + entry sizes at-x) (omega arith), small (at + 1) (omega arith), small (at + 1 + sizeIn sizes (entry heavy at-x)) (omega arith), f, freed-small, q)
           (placing-step w z in-net (omega arith) (omega arith) (omega arith))

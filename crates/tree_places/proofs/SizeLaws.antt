@@ -13,13 +13,14 @@ use lib.Dec.{eqb, leb}
 use borrow.Author.Tests.{eqb-true, eqb-false, leb-true, leb-false, le-leb, lt-leb}
 use Rattle.cuts.specs.Sums.{sumTo, only}
 use Rattle.cuts.specs.Network.{Tree, Network}
+use Rattle.cuts.specs.Limits.{mostNodes}
 use Rattle.cuts.specs.Tree.{Spanning}
 use Rattle.cuts.proofs.FlagLaws.{truth, agree}
 use Rattle.cuts.proofs.SumLaws.{sum-congr, sum-mono, sum-add, sum-zero, sum-single}
 use Rattle.arrays.specs.Lists.{entry}
 use Rattle.arrays.specs.Order.{Ordered}
 use Rattle.arrays.proofs.OrderLaws.{parent-in, not-root}
-use Rattle.tree_places.specs.Places.{subtree, Rooted, Sized}
+use Rattle.tree_places.specs.Places.{stopNumbers, subtree, Rooted, Sized}
 use Rattle.tree_places.specs.Passes.{child, SizedFrom}
 use Rattle.tree_places.proofs.SmallLaws.{small}
 use Rattle.tree_places.proofs.SubtreeLaws.{subtree-split, subtree-most}
@@ -130,17 +131,17 @@ module _ {net : Network} {t : Tree} {order parents uplinks : List ℕ} (g : Span
       let d = sized-most (sized-step w z b l) z p c in
       subst (λ (a : ℕ). a ≤ net .nodes) (getD-set-same sizes p (entry sizes p + entry sizes (entry order i)) 0 (omega arith)) d
 
--- ---- the pass over lists of 256 numbers, with sums to 256
+-- ---- the pass over lists of mostNodes numbers, with sums to mostNodes
 
 module _ {net : Network} {t : Tree} {order parents uplinks : List ℕ} {nodes : ℕ} (r : Rooted net t order parents uplinks nodes) where
-  pub sized-first : (sizes : List ℕ) → nodes ≤ 256 → ((x : ℕ) → x < 256 → entry sizes x ≡ 1) → SizedFrom net t order parents uplinks nodes sizes
+  pub sized-first : (sizes : List ℕ) → nodes ≤ mostNodes → ((x : ℕ) → x < mostNodes → entry sizes x ≡ 1) → SizedFrom net t order parents uplinks nodes sizes
   sized-first sizes m h =
       let e = r .counted in
       subst (λ (n : ℕ). SizedFrom net t order parents uplinks n sizes) e (sized-start (r .spanning) (r .ordered) sizes (λ x b. h x (omega arith)))
 
-  pub sized-turn : (i : ℕ) (sizes : List ℕ) → 1 < i → i ≤ nodes → nodes ≤ 256 → length sizes ≡ 256 → SizedFrom net t order parents uplinks i sizes
+  pub sized-turn : (i : ℕ) (sizes : List ℕ) → 1 < i → i ≤ nodes → nodes ≤ mostNodes → length sizes ≡ mostNodes → SizedFrom net t order parents uplinks i sizes
       → SizedFrom net t order parents uplinks (i - 1) (set sizes (entry parents (entry order (i - 1)))
-      ((entry sizes (entry parents (entry order (i - 1))) + entry sizes (entry order (i - 1))) % 257))
+      ((entry sizes (entry parents (entry order (i - 1))) + entry sizes (entry order (i - 1))) % stopNumbers))
   sized-turn i sizes z b m l w =
       let e = r .counted in
       let q : i ≡ suc (i - 1) = omega arith in

@@ -1,5 +1,5 @@
--- Numbers up to 256, and arrays of 256 numbers below a bound: a sum that is at most 256 loses nothing when it is taken modulo 257, and an
--- array stays below its bound when such a number is put in.
+-- Numbers up to mostNodes, and arrays of as many numbers, below a bound: a sum that is at most mostNodes loses nothing when it is taken modulo
+-- stopNumbers, and an array stays below its bound when such a number is put in.
 -- Assumes nothing.
 use Prim.Native.Nat.{ℕ, _%_, _≤_, _<_}
 use mathlib.Core.Path.{_≡_, sym}
@@ -12,15 +12,17 @@ use lib.Seq.{getD-set-same, getD-set-other}
 use lib.Dec.{eqb}
 use borrow.Author.Tests.{eqb-true, eqb-false}
 use Rattle.cuts.proofs.FlagLaws.{truth}
+use Rattle.cuts.specs.Limits.{mostNodes}
 use Rattle.arrays.specs.Lists.{entry, Within}
+use Rattle.tree_places.specs.Places.{stopNumbers}
 
-pub small : (n : ℕ) → n ≤ 256 → n % 257 ≡ n
+pub small : (n : ℕ) → n ≤ mostNodes → n % stopNumbers ≡ n
 small n b = omega arith
 
-pub zeros-within : (m : ℕ) → 0 < m → Within (replicate 256 0) 256 m
-zeros-within m z i b = rw (getD-replicate {A = ℕ} 256 i 0 0 b) z
+pub zeros-within : (m : ℕ) → 0 < m → Within (replicate mostNodes 0) mostNodes m
+zeros-within m z i b = rw (getD-replicate {A = ℕ} mostNodes i 0 0 b) z
 
-pub set-within : (s : List ℕ) (x n m : ℕ) → length s ≡ 256 → n < m → Within s 256 m → Within (set s x n) 256 m
+pub set-within : (s : List ℕ) (x n m : ℕ) → length s ≡ mostNodes → n < m → Within s mostNodes m → Within (set s x n) mostNodes m
 set-within s x n m l b h i c = go (truth (eqb x i))
   where
     go : (eqb x i ≡ true) ⊎ (eqb x i ≡ false) → entry (set s x n) i < m

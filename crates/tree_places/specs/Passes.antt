@@ -8,9 +8,11 @@
 --   shift o p s h v j             how far behind its first child's place v's child at position j stands
 --   seat h a f v x                the place for the child x of v, where v has its place in a and its first free place in f
 --   freed h s f v x               f when x has its places
+--   Settled a b f x at size heaviest a' b' f'   node x has its place, its stop and its first free place, behind its heaviest child's places:
+--                                 a', b' and f' are a, b and f with these, as the passes compute them
 --   Placing net o p s h i a b f   the nodes before position i have their places in a and stops in b, none past the number of nodes, and f
 --                                 has for each of them the first free place for a child that is not its heaviest
-use Prim.Native.Nat.{ℕ, _+_, _≤_, _<_}
+use Prim.Native.Nat.{ℕ, _+_, _%_, _≤_, _<_}
 use mathlib.Core.Path.{_≡_}
 use mathlib.Core.Bool.{Bool, _&&_, not, cond}
 use mathlib.Core.List.{List}
@@ -18,8 +20,9 @@ use lib.ListN.{set}
 use lib.Dec.{eqb, leb, ltb}
 use Rattle.cuts.specs.Sums.{sumTo, only}
 use Rattle.cuts.specs.Network.{Tree, Network}
+use Rattle.cuts.specs.Limits.{mostNodes}
 use Rattle.arrays.specs.Lists.{entry}
-use Rattle.tree_places.specs.Places.{subtree}
+use Rattle.tree_places.specs.Places.{stopNumbers, subtree}
 
 -- ---- sizes, from the last position on
 
@@ -36,7 +39,8 @@ abbrev pub heavier : List ℕ → ℕ → ℕ → ℕ
 heavier sizes h x = cond (eqb h 0) x (cond (ltb (entry sizes h) (entry sizes x)) x h)
 
 pub record Heavy (order parents sizes heavy : List ℕ) (i : ℕ) : Type 0 where
-  pub child : (v : ℕ) → v < 256 → (entry heavy v ≡ 0 → ⊥) → (j : ℕ) × (0 < j) × (j < i) × (entry order j ≡ entry heavy v) × (entry parents (entry order j) ≡ v)
+  pub child : (v : ℕ) → v < mostNodes → (entry heavy v ≡ 0 → ⊥)
+      → (j : ℕ) × (0 < j) × (j < i) × (entry order j ≡ entry heavy v) × (entry parents (entry order j) ≡ v)
   pub some : (j : ℕ) → 0 < j → j < i → entry heavy (entry parents (entry order j)) ≡ 0 → ⊥
   pub most : (j : ℕ) → 0 < j → j < i → entry sizes (entry order j) ≤ entry sizes (entry heavy (entry parents (entry order j)))
 
@@ -58,6 +62,11 @@ seat heavy place free v x = cond (eqb (entry heavy v) x) (entry place v + 1) (en
 
 abbrev pub freed : List ℕ → List ℕ → List ℕ → ℕ → ℕ → List ℕ
 freed heavy sizes free v x = cond (eqb (entry heavy v) x) free (set free v (entry free v + entry sizes x))
+
+pub record Settled (place stop free : List ℕ) (x at size heaviest : ℕ) (place' stop' free' : List ℕ) : Type 0 where
+  pub place-set : place' ≡ set place x (at % mostNodes)
+  pub stop-set : stop' ≡ set stop x ((at + size) % stopNumbers)
+  pub free-set : free' ≡ set free x (((at + 1) % stopNumbers + heaviest) % stopNumbers)
 
 pub record Placing (net : Network) (order parents sizes heavy : List ℕ) (i : ℕ) (place stop free : List ℕ) : Type 0 where
   pub root : entry place 0 ≡ 0

@@ -1,47 +1,54 @@
 // Numbers a tree's nodes by places, so that the nodes below each link stand side by side: a subtree has the places from its root's on,
 // the heaviest child's first. Which nodes lie below a link is then an interval of places, worked out once for each tree.
-// An order that fits no tree does no harm: places and stops then say nothing, and stay within 256.
+// An order that fits no tree does no harm: places and stops then say nothing, and stay within MOST_NODES.
 // Cost: a few steps for each node.
+use format::limits::MOST_NODES;
 use tree_growth::Grown;
 ghost use mathlib.Core.Path.{_≡_};
 ghost use mathlib.Core.List.{List};
 ghost use Prim.Native.Nat.{ℕ, _+_, _%_, _≤_, _<_};
-ghost use lib.ListN.{set};
 ghost use Rattle.cuts.specs.Network.{Network, Tree};
-ghost use Rattle.arrays.specs.Lists.{entry, Within};
-ghost use Rattle.tree_places.specs.Places.{Rooted, Sized, Heaviest, Preorder, HeavyFirst, ByPlace, Gathered};
-ghost use Rattle.tree_places.specs.Passes.{heavier, sizeIn};
-ghost use Rattle.arrays.specs.Kept.{Kept};
+ghost use Rattle.cuts.specs.Limits.{mostNodes};
+ghost use Rattle.arrays.specs.Lists.{entry};
+ghost use Rattle.tree_places.specs.Places.{stopNumbers, SomeNodes, Rooted, Sized, Heaviest};
+ghost use Rattle.tree_places.specs.Places.{PlacesOf, NodesOf, GatheredKnown, TreePlaced};
+ghost use Rattle.tree_places.specs.Passes.{heavier, sizeIn, Settled};
+
+// The numbers that a place can be: as many as there may be nodes.
+const PLACE_NUMBERS: u16 = MOST_NODES as u16;
+
+// The numbers that a stop can be: each place's, and the one behind the last place.
+const STOP_NUMBERS: u32 = MOST_NODES as u32 + 1;
 
 // A tree by its places: the place of each node and, by place, the node, its stop, which is the first place behind its subtree, and its
 // parent link.
 pub struct Places {
-    pub place: [u8; 256],
-    pub node: [u8; 256],
-    pub stops: [u16; 256],
-    pub links: [u16; 256],
+    pub place: [u8; MOST_NODES],
+    pub node: [u8; MOST_NODES],
+    pub stops: [u16; MOST_NODES],
+    pub links: [u16; MOST_NODES],
 }
 
 // The place of each node and its stop.
 struct Intervals {
-    place: [u8; 256],
-    stop: [u16; 256],
+    place: [u8; MOST_NODES],
+    stop: [u16; MOST_NODES],
 }
 
-// The sum, which is at most 256 where the numbers are sizes of subtrees apart.
+// The sum, which is at most MOST_NODES where the numbers are sizes of subtrees apart.
 fn sum(a: u16, b: u16) -> u16
-    ensures { λ r. ⌜ r ≡ (a + b) % 257 ⌝ }
+    ensures { λ r. ⌜ r ≡ (a + b) % stopNumbers ⌝ }
 {
-    ((a as u32 + b as u32) % 257) as u16
+    ((a as u32 + b as u32) % STOP_NUMBERS) as u16
 }
 
 // What each node adds of itself to the size of its subtree.
-fn own_sizes() -> [u16; 256]
-    ensures { λ r. ⌜ ((x : ℕ) → x < 256 → entry r x ≡ 1) ⌝ }
+fn own_sizes() -> [u16; MOST_NODES]
+    ensures { λ r. ⌜ ((x : ℕ) → x < mostNodes → entry r x ≡ 1) ⌝ }
 {
-    let mut sizes = [0u16; 256];
+    let mut sizes = [0u16; MOST_NODES];
     let mut x = 0;
-    while x < 256 {
+    while x < MOST_NODES {
         sizes[x] = 1;
         x += 1;
     }
@@ -49,9 +56,14 @@ fn own_sizes() -> [u16; 256]
 }
 
 // The size of each node's subtree: each node adds its own to its parent's, the last in the order first.
-fn subtree_sizes(order: [u8; 256], parents: [u8; 256], nodes: usize) -> [u16; 256]
-    requires { ⌜ (0 < nodes) × (nodes ≤ 256) ⌝ }
-    ensures { λ r. ⌜ ((net : Network) (t : Tree) (uplinks : List ℕ) → Rooted net t order parents uplinks nodes → Sized net t uplinks r) ⌝ }
+fn subtree_sizes(
+    nodes: usize,
+    order: [u8; MOST_NODES],
+    parents: [u8; MOST_NODES],
+) -> [u16; MOST_NODES]
+    requires { ⌜ SomeNodes nodes ⌝ }
+    ensures { λ r. ⌜ ((net : Network) (t : Tree) (uplinks : List ℕ) → Rooted net t order parents uplinks nodes
+        → Sized net t uplinks r) ⌝ }
 {
     let mut sizes = own_sizes();
     let mut i = nodes;
@@ -65,7 +77,7 @@ fn subtree_sizes(order: [u8; 256], parents: [u8; 256], nodes: usize) -> [u16; 25
 }
 
 // The one of the nodes `h` and `x` with the larger size; `x` where `h` is 0.
-fn heavier_one(sizes: &[u16; 256], h: u8, x: u8) -> u8
+fn heavier_one(sizes: &[u16; MOST_NODES], h: u8, x: u8) -> u8
     ensures { λ r. ⌜ r ≡ heavier (now (sizes .entry)) h x ⌝ }
 {
     if h == 0 {
@@ -80,15 +92,16 @@ fn heavier_one(sizes: &[u16; 256], h: u8, x: u8) -> u8
 
 // The child of each node with the largest size, 0 where there is none.
 fn heaviest_children(
-    order: [u8; 256],
-    parents: [u8; 256],
-    sizes: [u16; 256],
     nodes: usize,
-) -> [u8; 256]
-    requires { ⌜ (0 < nodes) × (nodes ≤ 256) ⌝ }
-    ensures { λ r. ⌜ ((net : Network) (t : Tree) (uplinks : List ℕ) → Rooted net t order parents uplinks nodes → Heaviest net parents sizes r) ⌝ }
+    order: [u8; MOST_NODES],
+    parents: [u8; MOST_NODES],
+    sizes: [u16; MOST_NODES],
+) -> [u8; MOST_NODES]
+    requires { ⌜ SomeNodes nodes ⌝ }
+    ensures { λ r. ⌜ ((net : Network) (t : Tree) (uplinks : List ℕ) → Rooted net t order parents uplinks nodes
+        → Heaviest net parents sizes r) ⌝ }
 {
-    let mut heavy = [0u8; 256];
+    let mut heavy = [0u8; MOST_NODES];
     let mut i = 1;
     while i < nodes {
         let x = order[i];
@@ -100,7 +113,7 @@ fn heaviest_children(
 }
 
 // The size of the node `h`, 0 where it is 0, which stands for no child.
-fn size_in(sizes: &[u16; 256], h: u8) -> u16
+fn size_in(sizes: &[u16; MOST_NODES], h: u8) -> u16
     ensures { λ r. ⌜ r ≡ sizeIn (now (sizes .entry)) h ⌝ }
 {
     if h == 0 { 0 } else { sizes[h as usize] }
@@ -109,21 +122,20 @@ fn size_in(sizes: &[u16; 256], h: u8) -> u16
 // Gives node `x` the place `at`; its stop, which is `size` places on; and the first free place for a child other than its heaviest, behind
 // the `heaviest` places of that one's subtree.
 fn settle(
-    place: &mut [u8; 256],
-    stop: &mut [u16; 256],
-    free: &mut [u16; 256],
+    place: &mut [u8; MOST_NODES],
+    stop: &mut [u16; MOST_NODES],
+    free: &mut [u16; MOST_NODES],
     x: usize,
     at: u16,
     size: u16,
     heaviest: u16,
 )
-    requires { ⌜ x < 256 ⌝ }
-    ensures { λ _. ⌜ (now (place .exit) ≡ set (now (place .entry)) x (at % 256))
-        × (now (stop .exit) ≡ set (now (stop .entry)) x ((at + size) % 257))
-        × (now (free .exit) ≡ set (now (free .entry)) x (((at + 1) % 257 + heaviest) % 257)) ⌝ }
+    requires { ⌜ x < mostNodes ⌝ }
+    ensures { λ _. ⌜ Settled (now (place .entry)) (now (stop .entry)) (now (free .entry))
+        x at size heaviest (now (place .exit)) (now (stop .exit)) (now (free .exit)) ⌝ }
 {
     let next = sum(at, 1);
-    place[x] = (at % 256) as u8;
+    place[x] = (at % PLACE_NUMBERS) as u8;
     stop[x] = sum(at, size);
     free[x] = sum(next, heaviest);
 }
@@ -131,20 +143,18 @@ fn settle(
 // The place and stop of each node, from the sizes and the heaviest children: the root at 0; the heaviest child of a node behind the node;
 // its other children, as the order has them, behind that one's subtree and behind each other's.
 fn place_nodes(
-    order: [u8; 256],
-    parents: [u8; 256],
-    sizes: [u16; 256],
-    heavy: [u8; 256],
     nodes: usize,
+    order: [u8; MOST_NODES],
+    parents: [u8; MOST_NODES],
+    sizes: [u16; MOST_NODES],
+    heavy: [u8; MOST_NODES],
 ) -> Intervals
-    requires { ⌜ (0 < nodes) × (nodes ≤ 256) ⌝ }
-    ensures { λ r. ⌜ Within (r .stop) 256 257 × ((net : Network) (t : Tree) (uplinks : List ℕ) → Rooted net t order parents uplinks nodes
-        → Sized net t uplinks sizes → Heaviest net parents sizes heavy
-        → Preorder net t uplinks (r .place) (r .stop) × HeavyFirst net heavy (r .place)) ⌝ }
+    requires { ⌜ SomeNodes nodes ⌝ }
+    ensures { λ r. ⌜ PlacesOf nodes order parents sizes heavy (r .place) (r .stop) ⌝ }
 {
-    let mut place = [0u8; 256];
-    let mut stop = [0u16; 256];
-    let mut free = [0u16; 256];
+    let mut place = [0u8; MOST_NODES];
+    let mut stop = [0u16; MOST_NODES];
+    let mut free = [0u16; MOST_NODES];
     settle(
         &mut place,
         &mut stop,
@@ -181,12 +191,11 @@ fn place_nodes(
 }
 
 // The node at each place.
-fn nodes_by_place(place: [u8; 256], nodes: usize) -> [u8; 256]
-    requires { ⌜ (0 < nodes) × (nodes ≤ 256) ⌝ }
-    ensures { λ r. ⌜ Within r 256 nodes × ((net : Network) (t : Tree) (uplinks stop : List ℕ) → Preorder net t uplinks place stop
-        → net .nodes ≡ nodes → ByPlace net place r) ⌝ }
+fn nodes_by_place(nodes: usize, place: [u8; MOST_NODES]) -> [u8; MOST_NODES]
+    requires { ⌜ SomeNodes nodes ⌝ }
+    ensures { λ r. ⌜ NodesOf nodes place r ⌝ }
 {
-    let mut node = [0u8; 256];
+    let mut node = [0u8; MOST_NODES];
     let mut x = 0;
     while x < nodes {
         let p = place[x] as usize;
@@ -197,11 +206,11 @@ fn nodes_by_place(place: [u8; 256], nodes: usize) -> [u8; 256]
 }
 
 // What `from` has for the node at each place, 0 past the last.
-fn gather(node: [u8; 256], from: [u16; 256], nodes: usize) -> [u16; 256]
-    requires { ⌜ nodes ≤ 256 ⌝ }
-    ensures { λ r. ⌜ Gathered r node from nodes × (Within from 256 257 → Within r 256 257) ⌝ }
+fn gather(nodes: usize, node: [u8; MOST_NODES], from: [u16; MOST_NODES]) -> [u16; MOST_NODES]
+    requires { ⌜ nodes ≤ mostNodes ⌝ }
+    ensures { λ r. ⌜ GatheredKnown nodes node from r ⌝ }
 {
-    let mut out = [0u16; 256];
+    let mut out = [0u16; MOST_NODES];
     let mut p = 0;
     while p < nodes {
         let x = node[p] as usize;
@@ -212,23 +221,21 @@ fn gather(node: [u8; 256], from: [u16; 256], nodes: usize) -> [u16; 256]
 }
 
 // A tree by its places.
-pub fn place_tree(g: Grown, nodes: usize) -> Places
-    requires { ⌜ (0 < nodes) × (nodes ≤ 256) ⌝ }
-    ensures { λ r. ⌜ Within (r .node) 256 nodes × Within (r .stops) 256 257 ⌝ }
-    ensures { λ r. ⌜ ((net : Network) (t : Tree) → Rooted net t (g .order) (g .parents) (g .uplinks) nodes
-        → Kept net t (r .place) (r .node) (r .stops) (r .links)) ⌝ }
+pub fn place_tree(nodes: usize, g: Grown) -> Places
+    requires { ⌜ SomeNodes nodes ⌝ }
+    ensures { λ r. ⌜ TreePlaced nodes g r ⌝ }
 {
     let order = g.order;
     let parents = g.parents;
     let uplinks = g.uplinks;
-    let sizes = subtree_sizes(order, parents, nodes);
-    let heavy = heaviest_children(order, parents, sizes, nodes);
-    let intervals = place_nodes(order, parents, sizes, heavy, nodes);
+    let sizes = subtree_sizes(nodes, order, parents);
+    let heavy = heaviest_children(nodes, order, parents, sizes);
+    let intervals = place_nodes(nodes, order, parents, sizes, heavy);
     let place = intervals.place;
     let stop = intervals.stop;
-    let node = nodes_by_place(place, nodes);
-    let stops = gather(node, stop, nodes);
-    let links = gather(node, uplinks, nodes);
+    let node = nodes_by_place(nodes, place);
+    let stops = gather(nodes, node, stop);
+    let links = gather(nodes, node, uplinks);
     Places {
         place: place,
         node: node,

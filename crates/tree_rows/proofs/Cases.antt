@@ -1,7 +1,7 @@
 -- A network of five nodes and seven links, a spanning tree of it and the arrays that hold both: what is asked of the arrays can be met,
 -- and the definitions give every pair of its links the weight that the row's law says.
 --   small           the network, with the tree
---   kept, indexed   its arrays are as a row needs them
+--   kept, indexed, searchable, searched   its arrays are as a row needs them
 --   pairs           all pairs, by computing both sides
 -- Assumes nothing.
 use Prim.Native.Nat.{ℕ, zero, suc, _+_, _-_, _*_, _^_, _<_}
@@ -18,6 +18,7 @@ use Rattle.cuts.specs.Sums.{allTo, table}
 use Rattle.cuts.specs.Network.{Link, Tree, Network, flag, linkAt}
 use Rattle.cuts.specs.Tree.{below, memberCount, spans, Member, Spanning}
 use Rattle.cuts.specs.Candidate.{one, weightOf}
+use Rattle.cuts.specs.Limits.{mostNodes}
 use Rattle.cuts.proofs.FlagLaws.{either, flags-equal, clash}
 use Rattle.cuts.proofs.SumLaws.{allTo-at, table-length, table-at}
 use Rattle.cuts.proofs.ListLaws.{mem-at}
@@ -25,6 +26,7 @@ use Rattle.arrays.specs.Lists.{entry}
 use Rattle.arrays.specs.ByNode.{linksAt, starts, listed, Indexed}
 use Rattle.arrays.specs.Kept.{within, LinksAt, Kept}
 use Rattle.tree_rows.specs.Rows.{sumOver, crossing, paired}
+use Rattle.tree_rows.specs.Making.{Searchable, Searched}
 
 abbrev link : ℕ → ℕ → ℕ → Link
 link a b w = record { first = a; second = b; weight = w }
@@ -188,6 +190,18 @@ indexed = record {
     at = run;
   };
 }
+
+pub searchable : Searchable (firsts ∷ seconds ∷ []) lists node stops 5
+unfolding allTo
+searchable = record {
+  few-nodes = omega arith;
+  links-listed = (7, omega arith, indexed .by-node);
+  nodes-in = λ i b. ltb-true _ 5 (allTo-at mostNodes (λ i. ltb (entry node i) 5) refl i b);
+  stops-in = λ i b. ltb-true _ (mostNodes + 1) (allTo-at mostNodes (λ i. ltb (entry stops i) (mostNodes + 1)) refl i b);
+}
+
+pub searched : Searched small grown (firsts ∷ seconds ∷ []) weights lists place node stops links 5
+searched = record { count = 7; indexed = indexed; kept = kept }
 
 -- ---- all pairs
 

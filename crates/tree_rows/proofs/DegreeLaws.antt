@@ -10,6 +10,7 @@ use lib.Dec.{eqb}
 use borrow.Author.Tests.{eqb-true, eqb-false, eq-eqb, ne-eqb}
 use Rattle.cuts.specs.Sums.{sumTo, only}
 use Rattle.cuts.specs.Network.{Tree, Network, linkAt, linkCount}
+use Rattle.cuts.specs.Limits.{mostNodes}
 use Rattle.cuts.proofs.FlagLaws.{truth}
 use Rattle.cuts.proofs.SumLaws.{sum-congr}
 use Rattle.arrays.specs.Lists.{entry}
@@ -37,7 +38,7 @@ module _ {net : Network} {t : Tree} {place node stops links : List ℕ} (w : Kep
       go (inl q) = eq-eqb a (entry node y) (sym (w .back a b) ∙ ap (entry node) (eqb-true (entry place a) y q)) ∙ sym q
       go (inr q) = ne-eqb a (entry node y) (λ e. eqb-false (entry place a) y q (ap (entry place) e ∙ w .forth y c)) ∙ sym q
 
-  pub degrees-weighted : (degrees out : List ℕ) → Degrees net degrees → net .nodes ≤ 256 → ((p : ℕ) → p < 256 → entry out p ≡ entry degrees (entry node p)) → Weighted net place out
+  pub degrees-weighted : (degrees out : List ℕ) → Degrees net degrees → net .nodes ≤ mostNodes → ((p : ℕ) → p < mostNodes → entry out p ≡ entry degrees (entry node p)) → Weighted net place out
   unfolding degree
   degrees-weighted degrees out d few g = record {
     is = λ y b.

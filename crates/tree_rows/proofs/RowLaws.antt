@@ -7,16 +7,16 @@ use mathlib.Core.Logic.{_⊎_, inl, inr}
 use mathlib.Core.List.{List, _++_}
 use native.Mathlib.Nat.{eq-or-lt-of-le}
 use native.Mathlib.Omega.{arith}
-use lib.ListN.{length, set, replicate}
-use lib.Seq.{getD-set-same, getD-set-other}
+use lib.ListN.{replicate}
 use Rattle.cuts.specs.Network.{Tree, Network}
 use Rattle.cuts.specs.Candidate.{one, weightOf}
-use Rattle.cuts.specs.Limits.{Light}
+use Rattle.cuts.specs.Limits.{mostNodes, mostLinks, fourBytes, Light}
 use Rattle.arrays.specs.Lists.{entry}
 use Rattle.arrays.specs.Links.{Laid}
 use Rattle.arrays.specs.Kept.{Kept}
 use Rattle.tree_places.proofs.StopLaws.{stops-nest}
-use Rattle.tree_rows.specs.Rows.{tally, paired, talliesIn, singlesIn, sumsIn, Added, Tallied, Summed, Row}
+use Rattle.tree_rows.specs.Rows.{tally, paired, degreesFrom, singlesFrom, talliesIn, singlesIn, sumsIn, Added, Tallied, Summed, RowTallied, Row}
+use Rattle.tree_rows.specs.Making.{RowStart, Beside}
 use Rattle.tree_rows.proofs.CrossLaws.{tally-join, tally-none, tally-small, crossing-small}
 use Rattle.tree_rows.proofs.PairLaws.{single-sum, pair-sum, pair-room}
 use Rattle.tree_rows.proofs.WrapLaws.{wrap-pair}
@@ -25,7 +25,7 @@ use Rattle.tree_rows.proofs.PartLaws.{singlesIn-at, sumsIn-at}
 -- ---- for those who make rows
 
 -- the arrays hold light networks only
-pub laid-light : {net : Network} {fs ss ws : List ℕ} {nodes links : ℕ} → Laid net fs ss ws nodes links → links ≤ 2_048 → ((k : ℕ) → entry ws k < 2 ^ 32) → Light net
+pub laid-light : {net : Network} {fs ss ws : List ℕ} {nodes links : ℕ} → Laid net fs ss ws nodes links → links ≤ mostLinks → ((k : ℕ) → entry ws k < fourBytes) → Light net
 laid-light l b h = record { few = let e = l .weighed .counted in omega arith; small = λ k c. let e = l .weighed .weights k c in let d = h k in omega arith }
 
 -- behind the last place there is no row yet
@@ -43,14 +43,18 @@ cleared {f} {m} {n} rest e q y b = ap (λ (l : List ℕ). entry (l ++ rest) y) e
   zeros (suc n) (suc y) b = zeros n y (omega arith)
 
 module _ {net : Network} {t : Tree} {place node stops links : List ℕ} (w : Kept net t place node stops links) where
-  pub start-child : {f : List ℕ} (u : ℕ) → 0 < u → u < net .nodes → suc u < entry stops u → (suc u < net .nodes → Tallied net place (suc u) (entry stops (suc u)) f)
-      → (suc u ≤ entry stops (suc u)) × (entry stops (suc u) ≤ entry stops u) × Tallied net place (suc u) (entry stops (suc u)) f
+  pub start-child : {f : List ℕ} (u : ℕ) → 0 < u → u < net .nodes → suc u < entry stops u → RowTallied net place stops (suc u) f
+      → RowStart net place stops u (entry stops (suc u)) f
   start-child u z b c h =
       let d : suc u < net .nodes = omega (arith, w .most u b) in
-      (omega (arith, w .some (suc u) d), stops-nest w u (suc u) z (omega arith) d c, h d)
+      record { behind = omega (arith, w .some (suc u) d); up-to = stops-nest w u (suc u) z (omega arith) d c; tallied = h d }
 
-  pub start-leaf : {f : List ℕ} (u : ℕ) → u < net .nodes → ((y : ℕ) → y < net .nodes → entry f y ≡ 0) → (suc u ≤ suc u) × (suc u ≤ entry stops u) × Tallied net place (suc u) (suc u) f
-  start-leaf u b h = (omega arith, w .some u b, record { is = λ y c. h y c ∙ sym (tally-none net place (suc u) (suc u) y (omega arith)) })
+  pub start-leaf : {f : List ℕ} (u : ℕ) → u < net .nodes → ((y : ℕ) → y < net .nodes → entry f y ≡ 0) → RowStart net place stops u (suc u) f
+  start-leaf u b h = record {
+    behind = omega arith;
+    up-to = w .some u b;
+    tallied = record { is = λ y c. h y c ∙ sym (tally-none net place (suc u) (suc u) y (omega arith)) };
+  }
 
   -- ---- one node more
 
@@ -82,25 +86,18 @@ module _ {net : Network} {t : Tree} {place node stops links : List ℕ} (w : Kep
 
 module _ {net : Network} {t : Tree} {place node stops links : List ℕ} (w : Kept net t place node stops links) (u : ℕ) (z : 0 < u) where
   -- from the tallies and sums of u and the singles behind it
-  pub row-made : {before figures : List ℕ} → u < net .nodes → u < length (singlesIn before) → Row net t place stops links (suc u) before
+  pub row-made : {before figures : List ℕ} → u < net .nodes → Row net t place stops links (suc u) before
       → Tallied net place u (entry stops u) (talliesIn figures) → Summed net place u (entry stops u) (net .nodes) (sumsIn figures)
-      → singlesIn figures ≡ set (singlesIn before) u (entry (sumsIn figures) (entry stops u)) → Row net t place stops links u figures
-  row-made {before} {figures} b c r k m e = record {
-    tallied = λ _. k;
-    summed = λ _. m;
-    alone = λ v a d. ap (λ (xs : List ℕ). entry xs v) e ∙ go v d (eq-or-lt-of-le a);
-  }
+      → entry (singlesIn figures) u ≡ entry (sumsIn figures) (entry stops u) → Beside u before figures → Row net t place stops links u figures
+  row-made {figures = figures} b r k m e o = record { tallied = λ _. k; summed = λ _. m; alone = λ v a d. go v d (eq-or-lt-of-le a) }
     where
-      go : (v : ℕ) → v < net .nodes → (u ≡ v) ⊎ (u < v)
-          → entry (set (singlesIn before) u (entry (sumsIn figures) (entry stops u))) v ≡ weightOf net t (one (entry links v))
-      go v d (inl q) =
-          rw (← q) (getD-set-same (singlesIn before) u (entry (sumsIn figures) (entry stops u)) 0 c ∙ m .is (entry stops u) (omega (arith, w .some u b)) (w .most u b)
-          ∙ sym (single-sum w u z b))
-      go v d (inr q) = getD-set-other (singlesIn before) u v (entry (sumsIn figures) (entry stops u)) 0 (λ n. omega arith) ∙ r .alone v q d
+      go : (v : ℕ) → v < net .nodes → (u ≡ v) ⊎ (u < v) → entry (singlesIn figures) v ≡ weightOf net t (one (entry links v))
+      go v d (inl q) = rw (← q) (e ∙ m .is (entry stops u) (omega (arith, w .some u b)) (w .most u b) ∙ sym (single-sum w u z b))
+      go v d (inr q) = o .singles v (λ n. omega arith) ∙ r .alone v q d
 
-  pub row-pair : {figures : List ℕ} → Light net → Row net t place stops links u figures → (v : ℕ) → u < v → v < net .nodes → v < 256 → entry stops v < 257
+  pub row-pair : {figures : List ℕ} → Light net → Row net t place stops links u figures → (v : ℕ) → u < v → v < net .nodes → v < mostNodes → entry stops v < degreesFrom
       → {shared sum twice r : ℕ} → (shared + entry figures v) % 2 ^ 64 ≡ entry figures (entry stops v) → shared < 2 ^ 64
-      → sum ≡ (entry figures (513 + u) + entry figures (513 + v)) % 2 ^ 64
+      → sum ≡ (entry figures (singlesFrom + u) + entry figures (singlesFrom + v)) % 2 ^ 64
       → twice ≡ (shared + shared) % 2 ^ 64 → (r + twice) % 2 ^ 64 ≡ sum → r < 2 ^ 64 → r ≡ weightOf net t (paired (entry links u) (entry links v))
   row-pair {figures} l k v a b few near e m g i j n =
       let c : u < net .nodes = omega arith in
@@ -113,5 +110,5 @@ module _ {net : Network} {t : Tree} {place node stops links : List ℕ} (w : Kep
       let tv = single-sum w v (omega arith) b in
       let bu = crossing-small net place l u (entry stops u) u (entry stops u) in
       let bv = crossing-small net place l v (entry stops v) v (entry stops v) in
-      wrap-pair (entry figures (513 + u)) (entry figures (513 + v)) (entry figures v) (omega (arith, o .0)) (rw (x, y, su, sv) (o .1)) (omega arith) e m g i j n
+      wrap-pair (entry figures (singlesFrom + u)) (entry figures (singlesFrom + v)) (entry figures v) (omega (arith, o .0)) (rw (x, y, su, sv) (o .1)) (omega arith) e m g i j n
       ∙ rw (x, y, su, sv) (sym (pair-sum w u v z a b))

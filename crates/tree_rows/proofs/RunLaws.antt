@@ -1,13 +1,11 @@
 -- The links of one node: the tally of its place alone, from the run of its link numbers.
 -- Assumes nothing.
 use Prim.Native.Nat.{ℕ, suc, _+_, _-_, _≤_, _<_}
-use mathlib.Core.Path.{_≡_, sym, ap, _∙_, subst}
+use mathlib.Core.Path.{_≡_, sym, ap, _∙_}
 use mathlib.Core.Logic.{_⊎_, inl, inr}
 use mathlib.Core.Bool.{true, false, _||_, cond}
 use mathlib.Core.List.{List}
 use native.Mathlib.Omega.{arith}
-use lib.ListN.{length, take, length-drop}
-use lib.Seq.{take-all}
 use lib.Dec.{eqb}
 use borrow.Author.Tests.{eqb-true, eqb-false}
 use Rattle.cuts.specs.Sums.{sumTo, only, table}
@@ -17,7 +15,7 @@ use Rattle.cuts.proofs.SumLaws.{sum-congr, table-length, table-at}
 use Rattle.cuts.proofs.ListLaws.{mem-at}
 use Rattle.arrays.specs.Lists.{entry}
 use Rattle.arrays.specs.Links.{Laid, Loopless}
-use Rattle.arrays.specs.ByNode.{touches, far, ByNode, listed, AllByNode}
+use Rattle.arrays.specs.ByNode.{touches, far, ByNode}
 use Rattle.tree_growth.proofs.EndsLaws.{linksAt-of, run-mem}
 use Rattle.tree_growth.proofs.RunLaws.{run-sum}
 use Rattle.arrays.specs.Kept.{within, Kept}
@@ -90,15 +88,3 @@ run-few {fs} {ss} {x = x} m e b l c =
     let i : p .0 < m = omega (arith, p .1) in
     let a = table-at 0 m (λ k. k) (p .0) i in
     omega (arith, i, p .2)
-
--- ---- the links' numbers, lent as what is behind the first 257 numbers of `lists`
-
-lent-is : (lists : List ℕ) → listed lists ≡ take (length lists - 257) (listed lists)
-lent-is lists = sym (take-all (length lists - 257) (listed lists) (rw length-drop (omega arith)))
-
-module _ {firsts seconds head : List ℕ} (lists : List ℕ) {nodes : ℕ} where
-  pub lent-all : AllByNode firsts seconds head (listed lists) nodes → AllByNode firsts seconds head (take (length lists - 257) (listed lists)) nodes
-  lent-all = subst (λ (list : List ℕ). AllByNode firsts seconds head list nodes) (lent-is lists)
-
-  pub lent-by-node : {links : List ℕ} → ByNode firsts seconds links head (listed lists) nodes → ByNode firsts seconds links head (take (length lists - 257) (listed lists)) nodes
-  lent-by-node {links} = subst (λ (list : List ℕ). ByNode firsts seconds links head list nodes) (lent-is lists)

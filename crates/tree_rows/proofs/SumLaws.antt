@@ -10,10 +10,11 @@ use native.Mathlib.Omega.{arith}
 use lib.ListN.{length, set, length-set}
 use lib.Seq.{length-take-le, getD-set-same, getD-set-other, take-set-lt}
 use Rattle.cuts.specs.Network.{Network}
-use Rattle.cuts.specs.Limits.{Light}
+use Rattle.cuts.specs.Limits.{mostNodes, Light}
 use Rattle.arrays.specs.Lists.{entry}
 use Rattle.tree_places.proofs.WithinLaws.{within-in, within-behind}
-use Rattle.tree_rows.specs.Rows.{sumOver, crossing, Weighted, degreesIn, talliesIn, sumsIn, Tallied, Summed}
+use Rattle.tree_rows.specs.Rows.{sumOver, crossing, Weighted, degreesFrom, talliesFrom, figuresLength, sumsIn, Tallied, Summed}
+use Rattle.tree_rows.specs.Making.{Summable}
 use Rattle.tree_rows.proofs.OverLaws.{over-none, over-suc}
 use Rattle.tree_rows.proofs.CrossLaws.{tally-most, crossing-small}
 use Rattle.tree_rows.proofs.WrapLaws.{wrap-add, wrap-sub}
@@ -56,15 +57,6 @@ module _ {net : Network} {place : List ℕ} (l : Light net) (u s : ℕ) where
 
 -- ---- the sums in the figures
 
--- the degrees are the network's, and the tallies those of the places from u up to stop
-pub record Summable (net : Network) (place figures : List ℕ) (stop nodes u : ℕ) : Type 0 where
-  pub light : Light net
-  pub weighted : Weighted net place (degreesIn figures)
-  pub tallied : Tallied net place u stop (talliesIn figures)
-  pub above : u ≤ stop
-  pub inside : stop ≤ nodes
-  pub sized : net .nodes ≡ nodes
-
 pub summable-same : {net : Network} {place f g : List ℕ} {stop nodes u : ℕ} → Same f g → Summable net place f stop nodes u → Summable net place g stop nodes u
 summable-same {net} {place} {stop = stop} {u = u} s k = record {
   light = k .light;
@@ -77,19 +69,19 @@ summable-same {net} {place} {stop = stop} {u = u} s k = record {
 
 -- the sums from u up to y are there, and `sum` is the last of them
 pub record Summing (stop nodes u : ℕ) (figures : List ℕ) (sum y : ℕ) : Type 0 where
-  pub long : length figures ≡ 1_025
+  pub long : length figures ≡ figuresLength
   pub begun : u ≤ y
   pub last : sum ≡ entry (sumsIn figures) y
   pub summed : (net : Network) (place : List ℕ) → Summable net place figures stop nodes u → Summed net place u stop y (sumsIn figures)
 
-sums-long : (figures : List ℕ) → length figures ≡ 1_025 → length (sumsIn figures) ≡ 257
-sums-long figures e = length-take-le 257 figures (omega arith)
+sums-long : (figures : List ℕ) → length figures ≡ figuresLength → length (sumsIn figures) ≡ degreesFrom
+sums-long figures e = length-take-le degreesFrom figures (omega arith)
 
 module _ (stop nodes u : ℕ) where
-  pub summing-start : (figures : List ℕ) → length figures ≡ 1_025 → u < 256 → Summing stop nodes u (set figures u 0) 0 u
+  pub summing-start : (figures : List ℕ) → length figures ≡ figuresLength → u < mostNodes → Summing stop nodes u (set figures u 0) 0 u
   summing-start figures e b =
       let l = sums-long figures e in
-      let d = take-set-lt 257 figures u 0 (omega arith) in
+      let d = take-set-lt degreesFrom figures u 0 (omega arith) in
       record {
         long = length-set figures u 0 ∙ e;
         begun = omega arith;
@@ -97,12 +89,12 @@ module _ (stop nodes u : ℕ) where
         summed = λ net place g. subst (Summed net place u stop u) (sym d) (summed-start (g .light) u stop (sumsIn figures) (omega arith));
       }
 
-  pub summing-more : {figures : List ℕ} {sum y : ℕ} (d r : ℕ) → Summing stop nodes u figures sum y → y < 256
+  pub summing-more : {figures : List ℕ} {sum y : ℕ} (d r : ℕ) → Summing stop nodes u figures sum y → y < mostNodes
       → ((net : Network) (place : List ℕ) → Summable net place figures stop nodes u → d ≡ crossing net place u stop y)
       → r ≡ (sum + d) % 2 ^ 64 → Summing stop nodes u (set figures (y + 1) r) r (y + 1)
   summing-more {figures} {sum} {y} d r s b c e =
       let l = sums-long figures (s .long) in
-      let p = take-set-lt 257 figures (y + 1) r (omega arith) in
+      let p = take-set-lt degreesFrom figures (y + 1) r (omega arith) in
       let q : r ≡ (entry (sumsIn figures) y + d) % 2 ^ 64 = e ∙ ap (λ (n : ℕ). (n + d) % 2 ^ 64) (s .last) in
       record {
         long = length-set figures (y + 1) r ∙ s .long;
@@ -114,13 +106,13 @@ module _ (stop nodes u : ℕ) where
       }
 
 -- what is added at a place: inside the run the difference, behind it the tally
-module _ {net : Network} {place figures : List ℕ} {stop nodes u : ℕ} (k : Summable net place figures stop nodes u) (few : nodes ≤ 256) (y : ℕ) where
-  pub step-in : {d : ℕ} → u ≤ y → y < stop → (d + entry figures (769 + y)) % 2 ^ 64 ≡ entry figures (257 + y) → d < 2 ^ 64 → d ≡ crossing net place u stop y
+module _ {net : Network} {place figures : List ℕ} {stop nodes u : ℕ} (k : Summable net place figures stop nodes u) (few : nodes ≤ mostNodes) (y : ℕ) where
+  pub step-in : {d : ℕ} → u ≤ y → y < stop → (d + entry figures (talliesFrom + y)) % 2 ^ 64 ≡ entry figures (degreesFrom + y) → d < 2 ^ 64 → d ≡ crossing net place u stop y
   step-in {d} a b e m =
       let i = k .inside in
       let n = k .sized in
       crossing-in (k .light) u stop (k .weighted) (k .tallied) y (omega arith) a b
       (ap (λ (x : ℕ). (d + x) % 2 ^ 64) (talliesIn-at figures y (omega arith)) ∙ e ∙ sym (degreesIn-at figures y (omega arith))) m
 
-  pub step-out : stop ≤ y → y < nodes → entry figures (769 + y) ≡ crossing net place u stop y
+  pub step-out : stop ≤ y → y < nodes → entry figures (talliesFrom + y) ≡ crossing net place u stop y
   step-out a b = let n = k .sized in sym (talliesIn-at figures y (omega arith)) ∙ crossing-out (k .light) u stop (k .tallied) y (omega arith) a

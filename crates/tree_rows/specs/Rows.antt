@@ -12,13 +12,15 @@
 --   paired e f                     the handle of two links, the lower number first
 --   Weighted net pl ds             ds has for each place its degree
 --   sumsIn figures                 of an array with four parts by place, the first: a row's sums, one more than there are places
---   degreesIn figures              the second: the degree of each place
---   singlesIn figures              the third: the weight of the link at each place, alone
---   talliesIn figures              the fourth: the tally of a row's places at each place
+--   degreesIn figures              the second, from degreesFrom on: the degree of each place
+--   singlesIn figures              the third, from singlesFrom on: the weight of the link at each place, alone
+--   talliesIn figures              the fourth, from talliesFrom on: the tally of a row's places at each place
+--   figuresLength                  the number of figures in that array
 --   Added net pl p f g             g is f with the tally of the place p alone added at each place, wherever the sum fits 64 bits
 --   Tallied net pl from to f       f has the tally of those places at each place
 --   Summed net pl from to end h    h has, at each place from `from` up to `end`, the sum of what crosses those places from `from` on
 --                                  in front of it
+--   RowTallied net pl st u f       f has the tally of the places below the link at u at each place, if there is such a place
 --   Row net t pl st l u figures    the tallies and sums are those of the places below the link at u, if there is such a place, and the
 --                                  singles have the weight of each link at u and behind, alone
 use Prim.Native.Nat.{ℕ, suc, _+_, _-_, _^_, _≤_, _<_}
@@ -30,6 +32,7 @@ use lib.Dec.{eqb, leb, ltb}
 use Rattle.cuts.specs.Sums.{sumTo, only}
 use Rattle.cuts.specs.Network.{Tree, Network, linkAt, linkCount}
 use Rattle.cuts.specs.Candidate.{Handle, one, two, weightOf}
+use Rattle.cuts.specs.Limits.{mostNodes}
 use Rattle.arrays.specs.Lists.{entry}
 use Rattle.arrays.specs.Kept.{within}
 
@@ -74,17 +77,29 @@ paired e f = cond (ltb e f) (two e f) (two f e)
 pub record Weighted (net : Network) (place degrees : List ℕ) : Type 0 where
   pub is : (y : ℕ) → y < net .nodes → entry degrees y ≡ degree net place y
 
+abbrev pub degreesFrom : ℕ
+degreesFrom = mostNodes + 1
+
+abbrev pub singlesFrom : ℕ
+singlesFrom = degreesFrom + mostNodes
+
+abbrev pub talliesFrom : ℕ
+talliesFrom = singlesFrom + mostNodes
+
+abbrev pub figuresLength : ℕ
+figuresLength = talliesFrom + mostNodes
+
 abbrev pub sumsIn : List ℕ → List ℕ
-sumsIn figures = take 257 figures
+sumsIn figures = take degreesFrom figures
 
 abbrev pub degreesIn : List ℕ → List ℕ
-degreesIn figures = take 256 (drop 257 figures)
+degreesIn figures = take mostNodes (drop degreesFrom figures)
 
 abbrev pub singlesIn : List ℕ → List ℕ
-singlesIn figures = take 256 (drop 513 figures)
+singlesIn figures = take mostNodes (drop singlesFrom figures)
 
 abbrev pub talliesIn : List ℕ → List ℕ
-talliesIn figures = take 256 (drop 769 figures)
+talliesIn figures = take mostNodes (drop talliesFrom figures)
 
 -- ---- a row
 
@@ -97,7 +112,10 @@ pub record Tallied (net : Network) (place : List ℕ) (from to : ℕ) (f : List 
 pub record Summed (net : Network) (place : List ℕ) (from to end : ℕ) (h : List ℕ) : Type 0 where
   pub is : (y : ℕ) → from ≤ y → y ≤ end → entry h y ≡ sumOver from y (crossing net place from to)
 
+abbrev pub RowTallied : Network → List ℕ → List ℕ → ℕ → List ℕ → Type 0
+RowTallied net place stops u f = u < net .nodes → Tallied net place u (entry stops u) f
+
 pub record Row (net : Network) (t : Tree) (place stops links : List ℕ) (u : ℕ) (figures : List ℕ) : Type 0 where
-  pub tallied : u < net .nodes → Tallied net place u (entry stops u) (talliesIn figures)
+  pub tallied : RowTallied net place stops u (talliesIn figures)
   pub summed : u < net .nodes → Summed net place u (entry stops u) (net .nodes) (sumsIn figures)
   pub alone : (v : ℕ) → u ≤ v → v < net .nodes → entry (singlesIn figures) v ≡ weightOf net t (one (entry links v))

@@ -13,6 +13,7 @@ use lib.Dec.{eqb}
 use borrow.Author.Tests.{eqb-true, eq-eqb, ne-eqb, le-leb, le-ltb}
 use Rattle.cuts.specs.Sums.{only}
 use Rattle.cuts.specs.Network.{Tree, Network, flag}
+use Rattle.cuts.specs.Limits.{mostNodes}
 use Rattle.cuts.specs.Cut.{Side, symDiff}
 use Rattle.cuts.specs.Tree.{below, Member}
 use Rattle.cuts.specs.Candidate.{Handle, one, two, Fits, sideOf}
@@ -24,13 +25,14 @@ use Rattle.arrays.specs.Marks.{marks}
 use Rattle.arrays.proofs.MarkLaws.{marks-length, marks-at}
 use Rattle.arrays.specs.Kept.{within, Kept}
 use Rattle.search_order.specs.Choice.{chosen}
+use Rattle.tree_sides.specs.Sides.{StandsAt, RunsMarked}
 
-pub marks-of : (s : Side) (xs : List ℕ) (n : ℕ) → length s ≡ n → length xs ≡ 256 → ((x : ℕ) → x < n → entry xs x ≡ only (flag s x) 1)
-    → ((x : ℕ) → n ≤ x → x < 256 → entry xs x ≡ 0) → xs ≡ marks s
+marks-of : (s : Side) (xs : List ℕ) (n : ℕ) → length s ≡ n → length xs ≡ mostNodes → ((x : ℕ) → x < n → entry xs x ≡ only (flag s x) 1)
+    → ((x : ℕ) → n ≤ x → x < mostNodes → entry xs x ≡ 0) → xs ≡ marks s
 marks-of s xs n sized long in-it past =
-    ext-getD 0 xs (marks s) (long ∙ sym (marks-length s)) (λ x b. let d : x < 256 = omega arith in at x d (decLt x n) ∙ sym (marks-at s x d))
+    ext-getD 0 xs (marks s) (long ∙ sym (marks-length s)) (λ x b. let d : x < mostNodes = omega arith in at x d (decLt x n) ∙ sym (marks-at s x d))
   where
-    at : (x : ℕ) → x < 256 → Dec (x < n) → entry xs x ≡ only (flag s x) 1
+    at : (x : ℕ) → x < mostNodes → Dec (x < n) → entry xs x ≡ only (flag s x) 1
     at x d (yes b) = in-it x b
     at x d (no b) = past x (omega arith) d ∙ ap (λ (f : Bool). only f 1) (sym (List·getD-eq-default s false {n = x} (omega arith)))
 
@@ -38,37 +40,35 @@ marks-of s xs n sized long in-it past =
 none-within : (p : ℕ) → within 0 0 p ≡ false
 none-within p = rw (le-leb 0 p (omega arith), le-ltb p 0 (omega arith))
 
--- the nodes below a link that stands at a place
-below-at : {net : Network} {t : Tree} {place node stops links : List ℕ} → Kept net t place node stops links → (e u : ℕ) → 0 < u → u < net .nodes → entry links u ≡ e
-    → (x : ℕ) → x < net .nodes → flag (below net t e) x ≡ within u (entry stops u) (entry place x)
-below-at {net} {t} k e u z b q x c = ap (λ (i : ℕ). flag (below net t i) x) (sym q) ∙ k .below-is u x z b c
+module _ {net : Network} {t : Tree} {place node stops links : List ℕ} (k : Kept net t place node stops links) {nodes : ℕ} (n : net .nodes ≡ nodes) where
+  -- the nodes below a link that stands at a place
+  below-at : {e u : ℕ} → StandsAt nodes links e u → (x : ℕ) → x < nodes → flag (below net t e) x ≡ within u (entry stops u) (entry place x)
+  below-at {e} {u} s x c = ap (λ (i : ℕ). flag (below net t i) x) (sym (s .is)) ∙ k .below-is u x (s .behind) (omega (arith, s .within)) (omega arith)
 
-module _ {net : Network} {t : Tree} {place node stops links : List ℕ} (k : Kept net t place node stops links) (first second : ℕ) (fits : Fits net t (chosen first second))
-    (xs : List ℕ) (long : length xs ≡ 256) (past : (x : ℕ) → net .nodes ≤ x → x < 256 → entry xs x ≡ 0) where
-  module _ (u : ℕ) (z : 0 < u) (b : u < net .nodes) (q : entry links u ≡ first) where
-    pub one-marked : first ≡ second → ((x : ℕ) → x < net .nodes → entry xs x ≡ only (xor (within u (entry stops u) (entry place x)) (within 0 0 (entry place x))) 1)
-        → xs ≡ marks (sideOf net t (chosen first second))
+  module _ (first second : ℕ) (fits : Fits net t (chosen first second)) (xs : List ℕ) {u : ℕ} (s : StandsAt nodes links first u) where
+    pub one-marked : first ≡ second → RunsMarked nodes place u (entry stops u) 0 0 xs → xs ≡ marks (sideOf net t (chosen first second))
     unfolding sideOf
     one-marked e h =
         let c : chosen first second ≡ one first = rw (eq-eqb first second e) in
         let m : Member net t first = subst (Fits net t) c fits in
-        marks-of (below net t first) xs (net .nodes) (below-rootless (k .spanning) first m .sized) long
-        (λ x d. h x d ∙ ap (λ (f : Bool). only f 1) (ap (xor (within u (entry stops u) (entry place x))) (none-within (entry place x)) ∙ xor-false _ ∙ sym (below-at k first u z b q x d)))
-        past
+        marks-of (below net t first) xs nodes (below-rootless (k .spanning) first m .sized ∙ n) (h .sized)
+        (λ x d. h .each x d
+        ∙ ap (λ (f : Bool). only f 1) (ap (xor (within u (entry stops u) (entry place x))) (none-within (entry place x)) ∙ xor-false _ ∙ sym (below-at s x d)))
+        (h .no-other)
         ∙ ap (λ (g : Handle). marks (sideOf net t g)) (sym c)
 
-    pub two-marked : (first ≡ second → ⊥) → (v : ℕ) → 0 < v → v < net .nodes → entry links v ≡ second
-        → ((x : ℕ) → x < net .nodes → entry xs x ≡ only (xor (within u (entry stops u) (entry place x)) (within v (entry stops v) (entry place x))) 1)
+    pub two-marked : (first ≡ second → ⊥) → {v : ℕ} → StandsAt nodes links second v → RunsMarked nodes place u (entry stops u) v (entry stops v) xs
         → xs ≡ marks (sideOf net t (chosen first second))
     unfolding sideOf
-    two-marked n v y a r h =
-        let c : chosen first second ≡ two first second = rw (ne-eqb first second n) in
+    two-marked d r h =
+        let c : chosen first second ≡ two first second = rw (ne-eqb first second d) in
         let m : Fits net t (two first second) = subst (Fits net t) c fits in
         let i = below-rootless (k .spanning) first (m .1) .sized in
         let j = below-rootless (k .spanning) second (m .2) .sized in
-        marks-of (symDiff (below net t first) (below net t second)) xs (net .nodes) (symDiff-length (below net t first) (below net t second) (i ∙ sym j) ∙ j) long
-        (λ x d. h x d ∙ ap (λ (f : Bool). only f 1) (sym (flag-symDiff (below net t first) (below net t second) x ∙ ap₂ xor (below-at k first u z b q x d) (below-at k second v y a r x d))))
-        past
+        marks-of (symDiff (below net t first) (below net t second)) xs nodes (symDiff-length (below net t first) (below net t second) (i ∙ sym j) ∙ j ∙ n) (h .sized)
+        (λ x b. h .each x b
+        ∙ ap (λ (f : Bool). only f 1) (sym (flag-symDiff (below net t first) (below net t second) x ∙ ap₂ xor (below-at s x b) (below-at r x b))))
+        (h .no-other)
         ∙ ap (λ (g : Handle). marks (sideOf net t g)) (sym c)
 
 -- both links are members

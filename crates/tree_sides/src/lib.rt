@@ -1,26 +1,25 @@
 // A side as marks, one a node, and its number of nodes, made from the places of a tree.
 pub mod counts; // the number of nodes
 
+use format::limits::MOST_NODES;
 use tree_places::Places;
 ghost use mathlib.Core.Path.{_≡_};
 ghost use mathlib.Core.Bool.{xor};
-ghost use Prim.Native.Nat.{ℕ, _≤_, _<_};
+ghost use Prim.Native.Nat.{_≤_};
 ghost use lib.ListN.{length, replicate};
 ghost use Rattle.cuts.specs.Sums.{only};
 ghost use Rattle.cuts.specs.Network.{Network, Tree};
-ghost use Rattle.cuts.specs.Tree.{Member};
+ghost use Rattle.cuts.specs.Limits.{mostNodes};
 ghost use Rattle.cuts.specs.Candidate.{Fits, sideOf};
-ghost use Rattle.arrays.specs.Lists.{entry};
 ghost use Rattle.arrays.specs.Marks.{marks};
-ghost use Rattle.arrays.specs.Kept.{within, LinksAt, Kept};
+ghost use Rattle.arrays.specs.Kept.{within, Kept};
 ghost use Rattle.search_order.specs.Choice.{chosen};
+ghost use Rattle.tree_sides.specs.Sides.{PlaceFound, PlacesGiven, RunsMarked};
 
 // The place of a member's lower end, 0 where no place has the link.
-fn place_of(links: &[u16], nodes: usize, link: u16) -> usize
-    requires { ⌜ (length (now links) ≡ 256) × (nodes ≤ 256) ⌝ }
-    ensures { λ r. ⌜ r < 256 ⌝ }
-    ensures { λ r. ⌜ ((net : Network) (t : Tree) → LinksAt net t (now (links .entry)) → net .nodes ≡ nodes → Member net t link
-        → (0 < r) × (r < nodes) × (entry (now (links .entry)) r ≡ link)) ⌝ }
+fn place_of(nodes: usize, links: &[u16; MOST_NODES], link: u16) -> usize
+    requires { ⌜ nodes ≤ mostNodes ⌝ }
+    ensures { λ r. ⌜ PlaceFound nodes (now (links .entry)) link r ⌝ }
 {
     let mut p = 1;
     while p < nodes {
@@ -62,18 +61,16 @@ fn clear(side: &mut [u8])
 
 // Marks the nodes whose places are in exactly one of two runs of places, from, .., to - 1 and start, .., end - 1.
 fn mark_runs(
-    side: &mut [u8],
-    place: &[u8],
+    side: &mut [u8; MOST_NODES],
     nodes: usize,
+    place: &[u8; MOST_NODES],
     from: usize,
     to: usize,
     start: usize,
     end: usize,
 )
-    requires { ⌜ (length (now side) ≡ 256) × (length (now place) ≡ 256) × (nodes ≤ 256) ⌝ }
-    ensures { λ _. ⌜ ((x : ℕ) → x < nodes
-        → entry (now (side .exit)) x ≡ only (xor (within from to (entry (now (place .entry)) x)) (within start end (entry (now (place .entry)) x))) 1) ⌝ }
-    ensures { λ _. ⌜ ((x : ℕ) → nodes ≤ x → x < 256 → entry (now (side .exit)) x ≡ 0) ⌝ }
+    requires { ⌜ PlacesGiven nodes (now place) ⌝ }
+    ensures { λ _. ⌜ RunsMarked nodes (now (place .entry)) from to start end (now (side .exit)) ⌝ }
 {
     clear(side);
     let mut x = 0;
@@ -85,21 +82,22 @@ fn mark_runs(
 }
 
 // Marks the side of the member `first` alone where `second` is equal to it, else of both.
-pub fn mark_side(side: &mut [u8], p: Places, nodes: usize, first: u16, second: u16)
-    requires { ⌜ (length (now side) ≡ 256) × (nodes ≤ 256) ⌝ }
-    ensures { λ _. ⌜ ((net : Network) (t : Tree) → Kept net t (p .place) (p .node) (p .stops) (p .links) → net .nodes ≡ nodes → Fits net t (chosen first second)
+pub fn mark_side(side: &mut [u8; MOST_NODES], nodes: usize, p: Places, first: u16, second: u16)
+    requires { ⌜ nodes ≤ mostNodes ⌝ }
+    ensures { λ _. ⌜ ((net : Network) (t : Tree) → Kept net t (p .place) (p .node) (p .stops) (p .links)
+        → net .nodes ≡ nodes → Fits net t (chosen first second)
         → now (side .exit) ≡ marks (sideOf net t (chosen first second))) ⌝ }
 {
     let place = p.place;
     let stops = p.stops;
     let links = p.links;
-    let from = place_of(&links, nodes, first);
+    let from = place_of(nodes, &links, first);
     let to = stops[from] as usize;
     if first == second {
-        mark_runs(side, &place, nodes, from, to, 0, 0);
+        mark_runs(side, nodes, &place, from, to, 0, 0);
     } else {
-        let start = place_of(&links, nodes, second);
+        let start = place_of(nodes, &links, second);
         let end = stops[start] as usize;
-        mark_runs(side, &place, nodes, from, to, start, end);
+        mark_runs(side, nodes, &place, from, to, start, end);
     }
 }

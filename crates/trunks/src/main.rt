@@ -8,14 +8,14 @@ use print_trunks::trunk_lines;
 const MOST_INPUT: usize = 32768;
 
 // Reads until the buffer is full or the input ends, and prints what the bytes read give.
-fn print_trunks(input: &mut [u8]) {
+fn trunks(input: &mut [u8]) {
     let read = io::read_full(STDIN_FILENO, input);
     let mut out = [0u8; MOST_OUTPUT];
-    let written = trunk_lines(&input[..read], &mut out);
-    io::write_all(STDOUT_FILENO, &out[..written]);
+    let lines = trunk_lines(&mut out, &input[..read]);
+    io::write_all(STDOUT_FILENO, lines);
 }
 
 fn main() {
     let mut input = [0u8; MOST_INPUT];
-    print_trunks(&mut input);
+    trunks(&mut input);
 }

@@ -1,22 +1,19 @@
 // Writes the side area and the report area.
+use format::limits::MOST_NODES;
+use format::limits::SIDE_LENGTH;
 use format::numbers::put_eight;
 use format::numbers::put_two;
 ghost use mathlib.Core.Path.{_≡_};
-ghost use mathlib.Core.List.{[], _∷_};
 ghost use Prim.Native.Nat.{_+_, _≤_};
 ghost use lib.ListN.{length};
 ghost use Rattle.cuts.specs.Network.{flag};
 ghost use Rattle.cuts.specs.Cut.{Side};
+ghost use Rattle.cuts.specs.Limits.{mostNodes};
 ghost use Rattle.arrays.specs.Marks.{marks};
 ghost use Rattle.sheet.specs.Bytes.{byteOf, fieldBytes};
 ghost use Rattle.sheet.specs.Sheet.{current};
-ghost use Rattle.sheet.specs.Areas.{sideBytes, reportWidths, reportLength, written};
-
-// The bytes of a side area that are written.
-pub const SIDE_LENGTH: usize = 32;
-
-// The bytes of a report area that are written.
-pub const REPORT_LENGTH: usize = 24;
+ghost use Rattle.sheet.specs.Areas.{sideLength, sideBytes, reportWidths, reportLength, written};
+ghost use Rattle.write_areas.specs.Fields.{fieldsOf};
 
 // What a report has for the second link of a single one.
 pub const NO_SECOND: u16 = 65535;
@@ -33,8 +30,8 @@ pub struct Report {
 }
 
 // The byte of the eight marks at a position. The remainders keep the sum in a byte, whatever stands there.
-fn packed(side: &[u8], at: usize) -> u8
-    requires { ⌜ (length (now side) ≡ 256) × (at + 8 ≤ 256) ⌝ }
+fn packed(side: &[u8; MOST_NODES], at: usize) -> u8
+    requires { ⌜ at + 8 ≤ mostNodes ⌝ }
     ensures { λ r. ⌜ ((s : Side) → now (side .entry) ≡ marks s → r ≡ byteOf (λ i. flag s (at + i))) ⌝ }
 {
     side[at] % 2
@@ -48,8 +45,8 @@ fn packed(side: &[u8], at: usize) -> u8
 }
 
 // Writes a side, given as marks: node k is bit k mod 8 of byte k / 8.
-pub fn write_side(area: &mut [u8], side: &[u8])
-    requires { ⌜ (length (now side) ≡ 256) × (32 ≤ length (now area)) ⌝ }
+pub fn write_side(area: &mut [u8], side: &[u8; MOST_NODES])
+    requires { ⌜ sideLength ≤ length (now area) ⌝ }
     ensures { λ _. ⌜ ((s : Side) → now (side .entry) ≡ marks s → now (area .exit) ≡ written (sideBytes s) (now (area .entry))) ⌝ }
 {
     let mut j = 0;
@@ -62,7 +59,7 @@ pub fn write_side(area: &mut [u8], side: &[u8])
 // Writes a report.
 pub fn write_report(area: &mut [u8], r: Report)
     requires { ⌜ reportLength current ≤ length (now area) ⌝ }
-    ensures { λ _. ⌜ now (area .exit) ≡ written (fieldBytes (reportWidths current) (r .verdict ∷ r .tree ∷ r .count ∷ r .first ∷ r .second ∷ r .weight ∷ r .floor ∷ [])) (now (area .entry)) ⌝ }
+    ensures { λ _. ⌜ now (area .exit) ≡ written (fieldBytes (reportWidths current) (fieldsOf r)) (now (area .entry)) ⌝ }
 {
     area[0] = r.verdict;
     area[1] = r.tree;

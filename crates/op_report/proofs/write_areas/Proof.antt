@@ -9,22 +9,19 @@ use Rattle.op_report.proofs.write_areas.Tie as tie
 
 -- the places on the way, each from a later one: the entry, and where the side is written
 abbrev start : tie.After-write-side-arg → tie.Start
-start c = c .before .before .before .before
+start c = c .before .before .before
 
 abbrev side : tie.After-second-link → tie.After-write-side
 side c = c .before .before .before .before
 
 write-side-requires : tie.Need-write-side-requires
-write-side-requires c κs = let p = start c .pre in (p .2, p .0)
-
-verdict-requires : tie.Need-verdict-requires
-verdict-requires c κs = tt
+write-side-requires c κs = start c .pre .for-side
 
 second-link-requires : tie.Need-second-link-requires
 second-link-requires c κs = tt
 
 write-report-requires : tie.Need-write-report-requires
-write-report-requires c κs = start (side (c .before) .before) .pre .1
+write-report-requires c κs = start (side (c .before) .before) .pre .for-report
 
 same-length : tie.Need-same-length
 same-length c = side (c .before .before .before .before) .write-side .kept .0
@@ -37,22 +34,18 @@ returns c =
     let told = c .before .before .before .before in
     let wrote = side told in
     let a = start (wrote .before) .args in
-    λ answer says marked floor verdict. (
-      wrote .write-side .ensures (answer .best .side) marked,
-      c .before .before .write-report .ensures
+    record {
+      side-is = λ answer says marked. wrote .write-side .ensures (answer .best .side) marked;
+      report-is = λ answer says. c .before .before .write-report .ensures
           ∙ ap (λ (bs : Bytes). written bs (a .report .now))
-          (report-fields (a .found) answer says current _ _ _
-          (verdict ∙ sym (told .before .verdict .ensures))
-          (told .second-link .ensures)
-          floor),
-    )
+          (report-fields (a .a .found) answer (says .best) current _ _ _ (sym (says .verdict)) (told .second-link .ensures) (sym (says .floor)));
+    }
 
 pub write-areas-spec : {M : Type 1} → statement M
 write-areas-spec =
     tie.close
     (tie.spec
     write-side-requires
-    verdict-requires
     second-link-requires
     write-report-requires
     same-length

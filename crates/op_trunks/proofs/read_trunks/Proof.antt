@@ -5,7 +5,7 @@ use mathlib.Core.List.{[]}
 use native.Mathlib.Omega.{arith}
 use borrow.Author.Needs.{needs}
 use Rattle.cuts.specs.Network.{Network, linkCount}
-use Rattle.arrays.specs.Lists.{part}
+use Rattle.arrays.specs.Links.{firstEnds, secondEnds}
 use Rattle.sheet.specs.Bytes.{Bytes}
 use Rattle.sheet.specs.Reading.{accepted}
 use Rattle.sheet.specs.Sheet.{current, decode}
@@ -23,10 +23,7 @@ abbrev start : tie.After-read-sheet → tie.Start
 start c = c .before .before .before .before
 
 abbrev read : tie.After-c → tie.After-read-sheet
-read c = c .before .before .before
-
-slice-aggregate-read-sheet : tie.Need-slice-aggregate-read-sheet
-slice-aggregate-read-sheet c = search needs
+read c = c .before .before
 
 read-sheet-requires : tie.Need-read-sheet-requires
 read-sheet-requires c κs = search needs
@@ -35,11 +32,11 @@ enum-known-c : tie.Need-enum-known-c
 enum-known-c c = search needs
 
 -- what the reading says
-sheet-says : (c : tie.After-read-sheet) (r : Outcome) → c .read-sheet .result ≡ r → let got = c .read-sheet .last .1 in
+sheet-says : (c : tie.After-read-sheet) (r : Outcome) → c .read-sheet .result ≡ r → let got = c .read-sheet .last in
     sheetSays (start c .args .sheet .now) (got .0) (got .1 .0) r ≡ decode current (start c .args .sheet .now)
 sheet-says c r e =
-    let got = c .read-sheet .last .1 in
-    subst (λ (r : Outcome). sheetSays (start c .args .sheet .now) (got .0) (got .1 .0) r ≡ decode current (start c .args .sheet .now)) e (c .read-sheet .ensures .0)
+    let got = c .read-sheet .last in
+    subst (λ (r : Outcome). sheetSays (start c .args .sheet .now) (got .0) (got .1 .0) r ≡ decode current (start c .args .sheet .now)) e (c .read-sheet .ensures .says)
 
 -- the network that was read, and how many links it has
 module _ (c : tie.After-c) where
@@ -47,19 +44,23 @@ module _ (c : tie.After-c) where
   sheet = start (read c) .args .sheet .now
 
   abbrev net : Network
-  net = let got = read c .read-sheet .last .1 in networkAt sheet (got .0) (got .1 .0) (countsOf (c .c .given .0 .0)) (c .c .given .0 .1 .0)
+  net = let got = read c .read-sheet .last in networkAt sheet (got .0) (got .1 .0) (countsOf (c .c .given .0 .0)) (c .c .given .0 .1 .0)
 
   accepts : decode current sheet ≡ accepted net []
   accepts = sym (sheet-says (read c) _ (c .c .given .1))
 
   counted : linkCount net ≡ c .c .given .0 .0 .links
-  counted = let got = read c .read-sheet .last .1 in linksOf-length (c .c .given .0 .0 .links) (part (got .0) 0) (part (got .0) 1) (got .1 .0)
+  counted = let got = read c .read-sheet .last in linksOf-length (c .c .given .0 .0 .links) (firstEnds (got .0)) (secondEnds (got .0)) (got .1 .0)
 
 trunk-numbers-requires : tie.Need-trunk-numbers-requires
 trunk-numbers-requires c κs =
     let t = c .before .before in
     let l = header-links current (sheet t) (net t) [] (accepts t) in
-    (l .0, rw (counted t) at (links-there current (sheet t) (net t) [] (accepts t)), omega (arith, l .2, counted t))
+    record {
+      inside = l .whole;
+      there = rw (counted t) at (links-there current (sheet t) (net t) [] (accepts t));
+      room = omega (arith, l .few, counted t);
+    }
 
 enum-known-n : tie.Need-enum-known-n
 enum-known-n c = search needs
@@ -71,14 +72,13 @@ returns c =
 
 returns-2 : tie.Need-returns-2
 returns-2 c =
-    let r = c .before .before .before .before in
+    let r = c .before .before .before in
     numbers-refused current (start r .args .sheet .now) _ _ (sym (sheet-says r _ (c .before .n .given .1)))
 
 pub read-trunks-spec : {M : Type 1} → statement M
 read-trunks-spec =
     tie.close
     (tie.spec
-    slice-aggregate-read-sheet
     read-sheet-requires
     enum-known-c
     trunk-numbers-requires

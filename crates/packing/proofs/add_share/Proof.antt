@@ -5,6 +5,7 @@ use mathlib.Core.Path.{_≡_, refl, sym, _∙_}
 use mathlib.Core.Logic.{⊎-elim}
 use native.Mathlib.Omega.{arith}
 use lib.ListN.{length, length-set}
+use Rattle.cuts.specs.Limits.{fourBytes}
 use Rattle.arrays.specs.Lists.{entry}
 use Rattle.packing.specs.Loads.{ShareAdded}
 use Rattle.packing.proofs.ShareLaws.{added-none, added-set, added-unset}
@@ -33,7 +34,7 @@ add-loads : tie.Need-add-loads Inv-loop μ-loop
 add-loads c =
     let b = c .before .before .before .before in
     let k = b .loop .k in
-    let f : entry (b .before .before .before .args .loads .now) k + b .before .before .before .args .share < 4_294_967_296 =
+    let f : entry (b .before .before .before .args .loads .now) k + b .before .before .before .args .share < fourBytes =
     rw (sym (c .before .before .bit-set .ensures) ∙ c .before .if1 .taken) at (b .before .before .before .pre .fits k (omega arith)) in
     omega (arith, b .loop .inv .0 .above k (omega arith))
 

@@ -30,7 +30,7 @@ add-share-requires c κs =
     record {
       mapped = p .mapped;
       sized = p .sized;
-      fits = λ k b. omega (arith, has-room (a .map .now) (a .share) (a .weights .now) (a .loads .now) (a .links) (none-full (c .before)) k b (p .carried k b), o .before .before .before .shared-slice-known .given k);
+      fits = λ k b. omega (arith, has-room (a .map .now) (a .share) (a .weights .now) (a .loads .now) (a .links) (none-full (c .before)) k b (p .carried k b), o .before .before .shared-slice-known2 .given k);
     }
 
 same-length : tie.Need-same-length
@@ -39,7 +39,7 @@ same-length c = search needs
 returns : tie.Need-returns
 returns c =
     let t = c .before .before .before .before in
-    (rw (t .before .overloads .ensures), rw (t .if1 .taken) (c .before .before .add-share .ensures))
+    record { counts = rw (t .before .overloads .ensures); added = rw (t .if1 .taken) (c .before .before .add-share .ensures) }
 
 same-length-2 : tie.Need-same-length-2
 same-length-2 c = search needs
@@ -47,7 +47,10 @@ same-length-2 c = search needs
 returns-2 : tie.Need-returns-2
 returns-2 c =
     let a = start (c .before) .args in
-    (rw (c .before .overloads .ensures), rw (c .if1 .left) (added-zero (a .map .now) (a .loads .now) (a .links)))
+    record {
+      counts = rw (c .before .overloads .ensures);
+      added = rw (c .if1 .left) (added-zero (a .map .now) (a .loads .now) (a .links));
+    }
 
 pub count-tree-spec : {M : Type 1} → statement M
 count-tree-spec = tie.close (tie.spec overloads-requires add-share-requires same-length returns same-length-2 returns-2)

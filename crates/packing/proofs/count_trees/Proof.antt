@@ -7,38 +7,45 @@ use mathlib.Core.Path.{_≡_, refl}
 use mathlib.Core.Logic.{⊎-elim}
 use native.Mathlib.Omega.{arith}
 use lib.ListN.{length}
-use Rattle.sheet.specs.Sheet.{treeLength}
+use Rattle.cuts.specs.Limits.{mostLinks}
+use Rattle.sheet.specs.Sheet.{mapLength, treeLength}
 use Rattle.read_sheet.proofs.TreeLaws.{mapAt-is, mapAt-length}
-use Rattle.packing.proofs.ShareLaws.{Loaded, Progress, going, loaded-none, record-within, still-going, sum-small, loads-sized, all-counted, turn-counts, turn-ends}
+use Rattle.packing.proofs.ShareLaws.{Loaded, Progress, going, loaded-none, record-within, still-going, sum-small, all-counted, turn-counts, turn-ends}
 use Rattle.packing.proofs.count_trees.Statement.{statement}
 use Rattle.packing.proofs.count_trees.Tie as tie
 
 abbrev Inv-loop : tie.InvT-loop
-Inv-loop s at links trees weights loads₀ size sum₀ place₀ stop₀ i₀ loads sum place stop i = Progress s weights at links trees loads sum place stop i
+Inv-loop loads₀ s at weights links trees size sum₀ place₀ stop₀ i₀ loads sum place stop i = Progress s weights at links trees loads sum place stop i
 
 abbrev μ-loop : tie.MeasureT-loop
-μ-loop s at links trees weights loads₀ size sum₀ place₀ stop₀ i₀ loads sum place stop i = stop - i
+μ-loop loads₀ s at weights links trees size sum₀ place₀ stop₀ i₀ loads sum place stop i = stop - i
 
 -- the entry, from the loop
 abbrev start : tie.At-loop Inv-loop μ-loop → tie.Start Inv-loop μ-loop
-start c = c .before .before .before .before
+start c = c .before .before .before
 
-add-size : tie.Need-add-size Inv-loop μ-loop
-add-size c = omega arith
+map-length-requires : tie.Need-map-length-requires Inv-loop μ-loop
+map-length-requires c κs = c .before .pre .trees-there .few-links
+
+-- the map's bytes
+sized : (c : tie.At-loop Inv-loop μ-loop) → c .before .map-length .result ≡ mapLength (start c .args .c .links)
+sized c = c .before .map-length .ensures
 
 loop-holds : tie.Need-loop-holds Inv-loop μ-loop
 loop-holds c =
-    let s = c .before .before .before in
-    going (rw (s .pre .1) (loaded-none (s .args .s .now) (s .args .weights .now) (s .args .at) (s .args .links) 2048 refl (s .pre .0 .few-links))) refl (omega arith)
+    let s = c .before .before in
+    let a = s .args in
+    let first = loaded-none (a .s .now) (a .weights .now) (a .at) (a .c .links) mostLinks refl (s .pre .trees-there .few-links) in
+    going (rw (s .pre .none) first) refl (omega arith)
 
 -- in the loop the trees so far count, and the next record ends within the sheet
 module _ (c : tie.In-loop Inv-loop μ-loop) where
   loaded : let a = start (c .before) .args in let l = c .before .loop in
-      Loaded (a .s .now) (a .weights .now) (a .at) (a .links) (l .loads) (l .sum) (l .place) (l .i) × (l .stop ≡ a .trees)
+      Loaded (a .s .now) (a .weights .now) (a .at) (a .c .links) (l .loads) (l .sum) (l .place) (l .i) × (l .stop ≡ a .c .trees)
   loaded = still-going (c .before .loop .inv) (c .loop-test .taken)
 
-  whole : let a = start (c .before) .args in c .before .loop .place + treeLength (a .links) ≤ length (a .s .now)
-  whole = let b = start (c .before) in record-within (loaded .0) (b .args .trees) (omega (arith, loaded .1, c .loop-test .taken)) (b .pre .0 .inside)
+  whole : let a = start (c .before) .args in c .before .loop .place + treeLength (a .c .links) ≤ length (a .s .now)
+  whole = let b = start (c .before) in record-within (loaded .0) (b .args .c .trees) (omega (arith, loaded .1, c .loop-test .taken)) (b .pre .trees-there .inside)
 
 four-requires : tie.Need-four-requires Inv-loop μ-loop
 four-requires c κs = omega (arith, whole c)
@@ -47,7 +54,7 @@ add-map-at : tie.Need-add-map-at Inv-loop μ-loop
 add-map-at c = omega (arith, whole (c .before))
 
 add-end : tie.Need-add-end Inv-loop μ-loop
-add-end c = omega (arith, whole (c .before))
+add-end c = omega (arith, whole (c .before), sized (c .before .before))
 
 sub-count-tree : tie.Need-sub-count-tree Inv-loop μ-loop
 sub-count-tree c = omega arith
@@ -56,63 +63,60 @@ part-count-tree-start : tie.Need-part-count-tree-start Inv-loop μ-loop
 part-count-tree-start c = omega arith
 
 part-count-tree-end : tie.Need-part-count-tree-end Inv-loop μ-loop
-part-count-tree-end c = omega (arith, whole (c .before .before))
+part-count-tree-end c = omega (arith, whole (c .before .before), sized (c .before .before .before))
 
 count-tree-requires : tie.Need-count-tree-requires Inv-loop μ-loop
 count-tree-requires c κs =
-    let b = c .before .before .before in
-    let p = start (b .before) .pre .0 in
+    let b = c .before .before .before .before in
+    let p = start (b .before) .pre .trees-there in
     let l = loaded b .0 in
     record {
-      mapped = let a = start (b .before) .args in omega (arith, mapAt-length (a .s .now) (b .before .loop .place) (a .links) (whole b));
-      weighed = p .weighed;
+      mapped = let a = start (b .before) .args in omega (arith, mapAt-length (a .s .now) (b .before .loop .place) (a .c .links) _ (sized (b .before)) (whole b));
+      weighed = omega (arith, p .few-links);
       sized = omega (arith, l .sized, p .few-links);
       carried = l .carried;
     }
 
 -- the loop, from where the next tree was tested
 abbrev turn : tie.After-count-tree Inv-loop μ-loop → tie.In-loop Inv-loop μ-loop
-turn c = c .before .before .before .before
+turn c = c .before .before .before .before .before
 
 cast-sum : tie.Need-cast-sum Inv-loop μ-loop
-cast-sum c = omega (arith, c .before .before .before .before .before .before .four .ok)
+cast-sum c = omega (arith, c .before .before .before .before .before .four .ok)
 
 add-sum : tie.Need-add-sum Inv-loop μ-loop
 add-sum c =
-    let b = turn (c .before .before .before) .before in
-    omega (arith, c .before .before .before .before .before .before .four .ok, sum-small (b .loop .inv) (start b .pre .0 .few-trees))
+    let b = turn (c .before) .before in
+    omega (arith, c .before .before .before .before .before .four .ok, sum-small (b .loop .inv) (start b .pre .trees-there .few-trees))
 
 add-i : tie.Need-add-i Inv-loop μ-loop
 add-i c =
-    let t = turn (c .before .before .before) in
-    omega (arith, t .loop-test .taken, loaded t .1, start (t .before) .pre .0 .few-trees)
+    let t = turn (c .before) in
+    omega (arith, t .loop-test .taken, loaded t .1, start (t .before) .pre .trees-there .few-trees)
 
 loop-less : tie.Need-loop-less Inv-loop μ-loop
 loop-less c =
-    let t = turn (c .before .before .before) in
+    let t = turn (c .before) in
     ⊎-elim (λ w. omega (arith, w .2, t .loop-test .taken)) (λ w. omega (arith, w .2, t .loop-test .taken, loaded t .1)) (c .if1 .came)
 
 loop-again : tie.Need-loop-again Inv-loop μ-loop
 loop-again c =
-    let n = c .before .before .before in
+    let n = c .before in
     let t = turn n in
     let a = start (t .before) .args in
     let place = t .before .loop .place in
-    let four = n .before .before .before .four in
-    let slice = mapAt-is (a .s .now) place (a .links) in
-    let more : t .before .loop .i < a .trees = omega (arith, t .loop-test .taken, loaded t .1) in
-    let end = place + 4 + (a .links + 7) / 8 in
+    let four = n .before .before .before .before .four in
+    let slice = mapAt-is (a .s .now) place (a .c .links) _ (sized (t .before)) in
+    let more : t .before .loop .i < a .c .trees = omega (arith, t .loop-test .taken, loaded t .1) in
+    let end = place + 4 + t .before .before .map-length .result in
     let tested = n .count-tree .ensures in
     ⊎-elim
-    (λ w. rw (w .1, w .2) (turn-counts (loaded t .0) slice (whole t) (four .ensures) (tested .0) (tested .1) (n .count-tree .kept .0) more end (w .0 .taken) (omega (arith, four .ok)) (omega arith) (loaded t .1)))
-    (λ w. rw (w .1, w .2) (turn-ends (loaded t .0) slice (whole t) (four .ensures) (tested .0) (tested .1) (n .count-tree .kept .0) more end (w .0 .left)))
+    (λ w. rw (w .1, w .2) (turn-counts (loaded t .0) slice (whole t) (four .ensures) (tested .counts) (tested .added) (n .count-tree .kept .0) more end (w .0 .taken) (omega (arith, four .ok)) (omega arith) (loaded t .1)))
+    (λ w. rw (w .1, w .2) (turn-ends (loaded t .0) slice (whole t) (four .ensures) (tested .counts) (tested .added) (n .count-tree .kept .0) more end (w .0 .left)))
     (c .if1 .came)
 
-same-length : tie.Need-same-length Inv-loop μ-loop
-same-length c = rw (start (c .before) .pre .1) (loads-sized (c .before .loop .inv))
-
 returns : tie.Need-returns Inv-loop μ-loop
-returns c = all-counted (c .before .loop .inv) (c .loop-test .left) (start (c .before) .pre .0 .few-trees)
+returns c = all-counted (c .before .loop .inv) (c .loop-test .left) (start (c .before) .pre .trees-there .few-trees)
 
 pub count-trees-spec : {M : Type 1} → statement M
 count-trees-spec =
@@ -120,7 +124,7 @@ count-trees-spec =
     (tie.spec
     Inv-loop
     μ-loop
-    add-size
+    map-length-requires
     loop-holds
     four-requires
     add-map-at
@@ -134,5 +138,4 @@ count-trees-spec =
     add-i
     loop-less
     loop-again
-    same-length
     returns)

@@ -14,10 +14,10 @@ use Rattle.packing.proofs.overloads.Statement.{statement}
 use Rattle.packing.proofs.overloads.Tie as tie
 
 abbrev Inv-loop : tie.InvT-loop
-Inv-loop loads weights map links share k₀ k = (anyTo k (overfull map share weights loads) ≡ false) × (k ≤ links)
+Inv-loop map links weights loads share k₀ k = (anyTo k (overfull map share weights loads) ≡ false) × (k ≤ links)
 
 abbrev μ-loop : tie.MeasureT-loop
-μ-loop loads weights map links share k₀ k = links - k
+μ-loop map links weights loads share k₀ k = links - k
 
 -- the entry, from the loop
 abbrev start : tie.At-loop Inv-loop μ-loop → tie.Start Inv-loop μ-loop

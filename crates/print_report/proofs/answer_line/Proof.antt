@@ -37,10 +37,11 @@ returns c =
     let r = word .before .before .before .before .args .r in
     let fs = decimal (r .verdict) ∷ decimal (r .weight) ∷ decimal (r .floor) ∷ [] in
     let gs = decimal (r .tree) ∷ decimal (r .first) ∷ secondField (handleOf (r .first) (r .second)) ∷ decimal (r .count) ∷ [] in
-    let all = put-fields fs gs (bounds .put-bounds .ensures .0) (cut .put-cut .ensures .0) in (
-      rw (firstLink-cond (eqb (r .second) noSecond) (r .first) (r .second)) (put-line answerWord (fs ++ gs) (word .put-word .ensures) all (feed .put-byte .ensures)),
-      omega arith,
-    )
+    let all = put-fields fs gs (bounds .put-bounds .ensures .put) (cut .put-cut .ensures .put) in
+    record {
+      put = rw (firstLink-cond (eqb (r .second) noSecond) (r .first) (r .second)) (put-line answerWord (fs ++ gs) (word .put-word .ensures) all (feed .put-byte .ensures));
+      few = omega arith;
+    }
 
 pub answer-line-spec : {M : Type 1} → statement M
 answer-line-spec =

@@ -10,13 +10,13 @@ read-report-requires : tie.Need-read-report-requires
 read-report-requires c κs = search needs
 
 answer-line-requires : tie.Need-answer-line-requires
-answer-line-requires c κs = omega (arith, c .before .before .before .before .before .pre .0)
+answer-line-requires c κs = omega (arith, c .before .before .before .pre)
 
 side-line-requires : tie.Need-side-line-requires
 side-line-requires c κs =
     let first = c .before .before .before in
-    let p = first .before .before .before .before .before .before .pre in
-    (omega (arith, p .0, first .answer-line .kept .0, first .answer-line .ensures .1), p .1)
+    let p = first .before .before .before .before .pre in
+    omega (arith, p, first .answer-line .kept .0, first .answer-line .ensures .few)
 
 same-length : tie.Need-same-length
 same-length c = search needs
@@ -25,11 +25,12 @@ returns : tie.Need-returns
 returns c =
     let second = c .before .before in
     let first = second .before .before .before .before in
-    let a = first .before .before .before .before .before .before .args in (
-      answerLines-put current _ (a .side .now) (a .report .now) (first .before .read-report .ensures)
-          (first .answer-line .ensures .0) (second .side-line .ensures .0),
-      omega (arith, first .answer-line .ensures .1, second .side-line .ensures .1),
-    )
+    let a = first .before .before .before .before .args in
+    record {
+      put = answerLines-put current _ (a .side .now) (a .report .now) (first .before .read-report .ensures)
+          (first .answer-line .ensures .put) (second .side-line .ensures .put);
+      few = omega (arith, first .answer-line .ensures .few, second .side-line .ensures .few);
+    }
 
 pub answer-lines-spec : {M : Type 1} → statement M
 answer-lines-spec = tie.close (tie.spec read-report-requires answer-line-requires side-line-requires same-length returns)

@@ -54,7 +54,7 @@ returns c =
     let ws = decimal (a .weight) in
     let one = put-more [] vs (put-none _ _) (v .put-field .ensures) in
     let two = put-more (vs ∷ []) ws one (w .put-field2 .ensures) in
-    (put-more (vs ∷ ws ∷ []) (decimal (a .floor)) two (f .put-field3 .ensures), floor-end f)
+    record { put = put-more (vs ∷ ws ∷ []) (decimal (a .floor)) two (f .put-field3 .ensures); few = floor-end f }
 
 pub put-bounds-spec : {M : Type 1} → statement M
 put-bounds-spec =

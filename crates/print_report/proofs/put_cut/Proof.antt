@@ -31,7 +31,7 @@ first-end : (c : tie.After-put-field2) → c .put-field2 .result ≤ start (tree
 first-end c = omega (arith, tree-end (tree c), decimal-most 4 (start (tree c) .args .first) (omega arith))
 
 second-end : (c : tie.After-put-second) → c .put-second .result ≤ start (tree (first c)) .args .at + 16
-second-end c = omega (arith, first-end (first c))
+second-end c = omega (arith, first-end (first c), c .put-second .ensures 0 .few)
 
 count-end : (c : tie.After-put-field3) → c .put-field3 .result ≤ start (tree (first (second c))) .args .at + 22
 count-end c = omega (arith, second-end (second c), decimal-most 4 (start (tree (first (second c))) .args .count) (omega arith))
@@ -67,8 +67,8 @@ returns c =
     let ss = secondField (handleOf (a .first) (a .second)) in
     let one = put-more [] ts (put-none _ _) (t .put-field .ensures) in
     let two = put-more (ts ∷ []) fs one (f .put-field2 .ensures) in
-    let three = put-more (ts ∷ fs ∷ []) ss two (s .put-second .ensures .0 (a .first)) in
-    (put-more (ts ∷ fs ∷ ss ∷ []) (decimal (a .count)) three (n .put-field3 .ensures), count-end n)
+    let three = put-more (ts ∷ fs ∷ []) ss two (s .put-second .ensures (a .first) .put) in
+    record { put = put-more (ts ∷ fs ∷ ss ∷ []) (decimal (a .count)) three (n .put-field3 .ensures); few = count-end n }
 
 pub put-cut-spec : {M : Type 1} → statement M
 put-cut-spec =

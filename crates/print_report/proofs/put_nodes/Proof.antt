@@ -22,7 +22,6 @@ record Nodes (old : Text) (at : ℕ) (side : Bytes) (out : Text) (end x : ℕ) :
   few : end ≤ at + room x
   within : x ≤ 256
   fits : at + 914 ≤ length old
-  held : length side ≡ 32
 
 -- one node more
 module _ {old : Text} {at : ℕ} {side : Bytes} {out : Text} {end x : ℕ} (n : Nodes old at side out end x) (more : x < 256) where
@@ -35,7 +34,6 @@ module _ {old : Text} {at : ℕ} {side : Bytes} {out : Text} {end x : ℕ} (n : 
     few = omega (arith, room-step x more, k .end-is);
     within = omega arith;
     fits = n .fits;
-    held = n .held;
   }
 
   unset-more : mapBit side x ≡ false → Nodes old at side out end (x + 1)
@@ -44,7 +42,6 @@ module _ {old : Text} {at : ℕ} {side : Bytes} {out : Text} {end x : ℕ} (n : 
     few = omega arith;
     within = omega arith;
     fits = n .fits;
-    held = n .held;
   }
 
 abbrev Inv-loop : tie.InvT-loop
@@ -55,13 +52,13 @@ abbrev μ-loop : tie.MeasureT-loop
 
 loop-holds : tie.Need-loop-holds Inv-loop μ-loop
 unfolding select
-loop-holds c = record { put = put-none _ _; few = omega arith; within = omega arith; fits = c .before .before .pre .0; held = c .before .before .pre .1 }
+loop-holds c = record { put = put-none _ _; few = omega arith; within = omega arith; fits = c .before .pre }
 
 bit-set-requires : tie.Need-bit-set-requires Inv-loop μ-loop
 bit-set-requires c κs = omega arith
 
 put-field-requires : tie.Need-put-field-requires Inv-loop μ-loop
-put-field-requires c κs = field-fits (c .before .before .before .before .loop .inv) (c .before .before .before .loop-test .taken)
+put-field-requires c κs = field-fits (c .before .before .before .before .before .loop .inv) (c .before .before .before .before .loop-test .taken)
 
 add-x : tie.Need-add-x Inv-loop μ-loop
 add-x c = omega arith
@@ -71,8 +68,8 @@ loop-less c = omega arith
 
 loop-again : tie.Need-loop-again Inv-loop μ-loop
 loop-again c =
-    let l = c .before .before .before .loop in
-    let more = c .before .before .loop-test .taken in
+    let l = c .before .before .before .before .loop in
+    let more = c .before .before .before .loop-test .taken in
     ⊎-elim
     (λ w. rw (w .5, w .6) (set-more (l .inv) more (sym (c .before .bit-set .ensures) ∙ w .0 .taken) (w .2 .ensures)))
     (λ w. rw (w .1, w .2) (unset-more (l .inv) more (sym (c .before .bit-set .ensures) ∙ w .0 .left)))
@@ -85,7 +82,7 @@ returns : tie.Need-returns Inv-loop μ-loop
 returns c =
     let l = c .before .loop in
     let e : 256 ≡ l .x = omega (arith, l .inv .within) in
-    (rw e (l .inv .put), omega arith)
+    record { put = rw e (l .inv .put); few = omega arith }
 
 pub put-nodes-spec : {M : Type 1} → statement M
 put-nodes-spec =

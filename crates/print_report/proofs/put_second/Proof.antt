@@ -19,7 +19,7 @@ returns : tie.Need-returns
 returns c =
     let p = c .before .before in
     let t = p .before .before .before in
-    (λ e. rw (eq-eqb (t .before .before .args .second) noSecond (t .if1 .taken)) (p .put-word .ensures), omega arith)
+    λ e. record { put = rw (eq-eqb (t .before .before .args .second) noSecond (t .if1 .taken)) (p .put-word .ensures); few = omega arith }
 
 put-field-requires : tie.Need-put-field-requires
 put-field-requires c κs = omega (arith, decimal-most 4 (c .before .before .before .args .second) (omega arith))
@@ -31,10 +31,8 @@ returns-2 : tie.Need-returns-2
 returns-2 c =
     let p = c .before .before in
     let t = p .before .before in
-    let second = t .before .before .args .second in (
-      λ e. rw (ne-eqb second noSecond (t .if1 .left)) (p .put-field .ensures),
-      omega (arith, decimal-most 4 second (omega arith)),
-    )
+    let second = t .before .before .args .second in
+    λ e. record { put = rw (ne-eqb second noSecond (t .if1 .left)) (p .put-field .ensures); few = omega (arith, decimal-most 4 second (omega arith)) }
 
 pub put-second-spec : {M : Type 1} → statement M
 put-second-spec =

@@ -27,7 +27,7 @@ returns c =
     let word = c .before .before .before .before .before .before .before .before .before .before .put-word .ensures in
     let nodes = c .before .before .before .before .before .before .put-nodes .ensures in
     let feed = c .before .before .put-byte .ensures in
-    (put-line sideWord _ word (nodes .0) feed, omega arith)
+    record { put = put-line sideWord _ word (nodes .put) feed; few = omega arith }
 
 pub side-line-spec : {M : Type 1} → statement M
 side-line-spec =

@@ -43,7 +43,7 @@ returns c =
     let w = word n in
     let ds = decimal (start w .args .number) in
     let field = put-more [] ds (put-none _ _) (n .put-field .ensures) in
-    (put-line refusedWord (ds ∷ []) (w .put-word .ensures) field (feed .put-byte .ensures), omega (arith, number-end n))
+    record { put = put-line refusedWord (ds ∷ []) (w .put-word .ensures) field (feed .put-byte .ensures); few = omega (arith, number-end n) }
 
 pub refused-line-spec : {M : Type 1} → statement M
 refused-line-spec =

@@ -3,6 +3,7 @@
 use Prim.Native.Nat.{_-_}
 use mathlib.Core.Path.{_≡_, refl}
 use native.Mathlib.Omega.{arith}
+use borrow.Author.Needs.{needs}
 use Rattle.print_text.proofs.LineLaws.{put-length}
 use Rattle.print_trunks.specs.Output.{linesFrom}
 use Rattle.print_trunks.proofs.LineLaws.{Lines, line-fits, one-more}
@@ -18,8 +19,7 @@ abbrev μ-loop : tie.MeasureT-loop
 loop-holds : tie.Need-loop-holds Inv-loop μ-loop
 unfolding linesFrom
 loop-holds c =
-    let p = c .before .before .pre in
-    record { put = record { end-is = omega arith; new-is = refl }; few = omega arith; within = omega arith; there = p .2; limit = p .1; room = p .0 }
+    record { put = record { end-is = omega arith; new-is = refl }; few = omega arith; within = omega arith; there = c .before .before .pre .there; limit = c .before .before .pre .few; room = c .before .before .pre .room }
 
 mul-link-line : tie.Need-mul-link-line Inv-loop μ-loop
 mul-link-line c = let i = c .before .before .loop .inv in omega (arith, i .limit)
@@ -30,7 +30,7 @@ shared-slice-read-link-line c = let i = c .before .before .before .loop .inv in 
 link-line-requires : tie.Need-link-line-requires Inv-loop μ-loop
 link-line-requires c κs =
     let l = c .before .before .before in
-    (line-fits (l .loop .inv) (c .before .before .loop-test .taken), omega (arith, l .loop .inv .limit, c .before .before .loop-test .taken))
+    record { room = line-fits (l .loop .inv) (c .before .before .loop-test .taken); numbered = omega (arith, l .loop .inv .limit, c .before .before .loop-test .taken) }
 
 add-k : tie.Need-add-k Inv-loop μ-loop
 add-k c = omega arith
@@ -42,7 +42,7 @@ loop-again : tie.Need-loop-again Inv-loop μ-loop
 loop-again c =
     let r = c .before .before in
     let l = r .before .before .before in
-    one-more (l .before .loop .inv) (l .loop-test .taken) (r .link-line .ensures .0) (r .link-line .ensures .1)
+    one-more (l .before .loop .inv) (l .loop-test .taken) (r .link-line .ensures .put) (r .link-line .ensures .few)
 
 same-length : tie.Need-same-length Inv-loop μ-loop
 same-length c = put-length (c .before .loop .inv .put)
@@ -51,7 +51,7 @@ returns : tie.Need-returns Inv-loop μ-loop
 returns c =
     let i = c .before .loop .inv in
     let e : c .before .before .before .before .args .count ≡ c .before .loop .k = omega (arith, i .within) in
-    (rw e (i .put), omega (arith, i .few, i .within, i .limit))
+    record { put = rw e (i .put); few = omega (arith, i .few, i .within, i .limit) }
 
 pub link-lines-spec : {M : Type 1} → statement M
 link-lines-spec =

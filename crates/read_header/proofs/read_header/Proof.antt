@@ -5,7 +5,7 @@ use native.Mathlib.Omega.{arith}
 use lib.ListN.{getD, drop}
 use borrow.Author.Needs.{needs}
 use Rattle.sheet.specs.Reading.{accepted, unless}
-use Rattle.sheet.specs.Sheet.{headerRecord}
+use Rattle.sheet.specs.Sheet.{headerLength, headerRecord}
 use Rattle.sheet.proofs.ReadingLaws.{unless-passed, unless-refused}
 use Rattle.read_header.proofs.HeaderLaws.{header-short, header-long, counts-at}
 use Rattle.read_header.proofs.read_header.Statement.{statement}
@@ -32,10 +32,10 @@ count-refusal-requires c κs = search needs
 -- what the header says: the counts, unless one is refused
 counted : (c : tie.After-count-refusal) → let s = c .before .before .before .before .before .before .args .s .now in
     headerRecord s
-    ≡ unless (c .count-refusal .result) (accepted (record { nodes = c .before .before .before .two .result; links = c .before .before .two2 .result; trees = getD s 4 0 }) (drop 5 s))
+    ≡ unless (c .count-refusal .result) (accepted (record { nodes = c .before .before .before .two .result; links = c .before .before .two2 .result; trees = getD s 4 0 }) (drop headerLength s))
 counted c =
     header-long _ _ _ (omega arith)
-    (counts-at _ _ (c .before .before .before .two .ensures .0) (c .before .before .two2 .ensures .0) refl) (c .count-refusal .ensures)
+    (counts-at _ _ (c .before .before .before .two .ensures .same) (c .before .before .two2 .ensures .same) refl) (c .count-refusal .ensures)
 
 returns-2 : tie.Need-returns-2
 returns-2 c = sym (counted (c .before) ∙ unless-passed _ _ (c .if2 .taken))

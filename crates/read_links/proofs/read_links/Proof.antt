@@ -18,11 +18,11 @@ use Rattle.read_links.proofs.read_links.Statement.{statement}
 use Rattle.read_links.proofs.read_links.Tie as tie
 
 abbrev Inv-loop : tie.InvT-loop
-Inv-loop s from nodes count ends₀ weights₀ at₀ link₀ k₀ ends weights at link k =
+Inv-loop ends₀ weights₀ s from nodes count at₀ link₀ k₀ ends weights at link k =
     LinksRun current s from nodes count ends weights at link k
 
 abbrev μ-loop : tie.MeasureT-loop
-μ-loop s from nodes count ends₀ weights₀ at₀ link₀ k₀ ends weights at link k = count - k
+μ-loop ends₀ weights₀ s from nodes count at₀ link₀ k₀ ends weights at link k = count - k
 
 loop-holds : tie.Need-loop-holds Inv-loop μ-loop
 unfolding linksOf table
@@ -32,8 +32,7 @@ loop-holds c = record {
   inside = omega arith;
   within = omega arith;
   few = omega arith;
-  arrays = c .before .before .pre .3;
-  weights = omega arith;
+  arrays = c .before .pre .arrays;
   room = omega arith;
 }
 
@@ -45,18 +44,18 @@ enum-known-l c = c .match .keys1
 
 -- what `read_link` answered
 module _ (c : tie.After-read-link Inv-loop μ-loop) where
-  link-says : (r : Record) → c .read-link .result ≡ r → let a = c .before .before .before .before .before .args in let l = c .before .before .loop in
+  link-says : (r : Record) → c .read-link .result ≡ r → let a = c .before .before .before .before .args in let l = c .before .before .loop in
       linkSays (a .s .now) r ≡ linkRecord current (a .nodes) (eqb (l .k) 0) (linkOf (l .link)) (drop (l .at) (a .s .now))
   link-says r e =
-      let a = c .before .before .before .before .before .args in
+      let a = c .before .before .before .before .args in
       let l = c .before .before .loop in
-      subst (λ (r : Record). linkSays (a .s .now) r ≡ linkRecord current (a .nodes) (eqb (l .k) 0) (linkOf (l .link)) (drop (l .at) (a .s .now))) e (c .read-link .ensures .0)
+      subst (λ (r : Record). linkSays (a .s .now) r ≡ linkRecord current (a .nodes) (eqb (l .k) 0) (linkOf (l .link)) (drop (l .at) (a .s .now))) e (c .read-link .ensures .says)
 
-  link-inside : (r : Record) → c .read-link .result ≡ r → LinkInside (c .before .before .before .before .before .args .s .now) r
-  link-inside r e = subst (λ (r : Record). LinkInside (c .before .before .before .before .before .args .s .now) r) e (c .read-link .ensures .1)
+  link-inside : (r : Record) → c .read-link .result ≡ r → LinkInside (c .before .before .before .before .args .s .now) r
+  link-inside r e = subst (λ (r : Record). LinkInside (c .before .before .before .before .args .s .now) r) e (c .read-link .ensures .inside)
 
 -- a link that was read has its ends at nodes
-good : (c : tie.After-l Inv-loop μ-loop) → GoodLink current (c .before .before .before .before .before .before .before .args .nodes) (linkOf (c .l .given .0 .0))
+good : (c : tie.After-l Inv-loop μ-loop) → GoodLink current (c .before .before .before .before .before .before .args .nodes) (linkOf (c .l .given .0 .0))
 good c =
     let got = c .l .given in
     next-good (c .before .before .before .before .loop .inv) (c .before .before .before .loop-test .taken) (got .0 .0) (got .0 .1 .0) (link-says (c .before .before) _ (got .1))
@@ -82,19 +81,20 @@ index-2-ends-2 c = omega arith
 mul-weights : tie.Need-mul-weights Inv-loop μ-loop
 mul-weights c = omega arith
 
-slice-write-weights : tie.Need-slice-write-weights Inv-loop μ-loop
-slice-write-weights c = omega arith
+element-write-weights : tie.Need-element-write-weights Inv-loop μ-loop
+element-write-weights c = omega arith
 
 enum-known-n : tie.Need-enum-known-n Inv-loop μ-loop
 enum-known-n c = c .match .keys2
 
-same-length : tie.Need-same-length Inv-loop μ-loop
-same-length c = omega arith
-
 returns : tie.Need-returns Inv-loop μ-loop
 returns c =
     let l = c .before .before .before .before .before .loop in
-    (links-stop (l .inv) (c .before .before .before .before .loop-test .taken) (c .before .n .given .0 .0) (link-says (c .before .before .before) _ (c .before .n .given .1)), (tt, l .inv .arrays))
+    record {
+      says = links-stop (l .inv) (c .before .before .before .before .loop-test .taken) (c .before .n .given .0 .0) (link-says (c .before .before .before) _ (c .before .n .given .1));
+      inside = tt;
+      arrays = l .inv .arrays;
+    }
 
 add-k : tie.Need-add-k Inv-loop μ-loop
 add-k c = omega arith
@@ -109,11 +109,8 @@ loop-again c =
     let r = c .before .before .before .before .before in
     links-more (l .inv) (c .before .before .before .before .before .before .loop-test .taken) (got .0 .0) (got .0 .1 .0) (link-says r _ (got .1)) (link-inside r _ (got .1))
 
-same-length-2 : tie.Need-same-length-2 Inv-loop μ-loop
-same-length-2 c = omega arith
-
 returns-2 : tie.Need-returns-2 Inv-loop μ-loop
-returns-2 c = (links-done (c .before .loop .inv) (omega (arith, c .before .loop .inv .within)), (c .before .loop .inv .inside, c .before .loop .inv .arrays))
+returns-2 c = let l = c .before .loop .inv in record { says = links-done l (omega (arith, l .within)); inside = l .inside; arrays = l .arrays }
 
 pub read-links-spec : {M : Type 1} → statement M
 read-links-spec =
@@ -131,12 +128,10 @@ read-links-spec =
     index-1-ends-2
     index-2-ends-2
     mul-weights
-    slice-write-weights
+    element-write-weights
     enum-known-n
-    same-length
     returns
     add-k
     loop-less
     loop-again
-    same-length-2
     returns-2)

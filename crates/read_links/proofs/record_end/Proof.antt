@@ -15,7 +15,7 @@ use Rattle.read_links.proofs.record_end.Statement.{statement}
 use Rattle.read_links.proofs.record_end.Tie as tie
 
 returns : tie.Need-returns
-returns c = let a = c .before .before .args in (sym (no-map-byte current (a .start) (a .at) (a .s .now) (omega arith)), omega arith)
+returns c = let a = c .before .before .args in record { number = sym (no-map-byte current (a .start) (a .at) (a .s .now) (omega arith)); ends-at = omega arith }
 
 shared-slice-read-m : tie.Need-shared-slice-read-m
 shared-slice-read-m c = search needs
@@ -23,7 +23,7 @@ shared-slice-read-m c = search needs
 returns-2 : tie.Need-returns-2
 returns-2 c =
     let a = c .before .before .before .before .before .args in
-    (sym (map-byte-of-start current (a .start) (a .at) (a .s .now) (omega arith) (c .if3 .taken) (λ l e. omega arith)), omega arith)
+    record { number = sym (map-byte-of-start current (a .start) (a .at) (a .s .now) (omega arith) (c .if3 .taken) (λ l e. omega arith)); ends-at = omega arith }
 
 field-bytes-requires : tie.Need-field-bytes-requires
 field-bytes-requires c κs = search needs
@@ -51,7 +51,7 @@ returns-3 c =
     let a = c .before .before .before .before .before .before .before .before .before .args in
     let m = allowed (c .before .before) in
     let e = start-seven (c .before .before .before .before .before) in
-    (sym (field-cut-off current (a .start) (a .at) (a .s .now) (omega arith) (m .0) e (omega arith)), omega arith)
+    record { number = sym (field-cut-off current (a .start) (a .at) (a .s .now) (omega arith) (m .0) e (omega arith)); ends-at = omega arith }
 
 add-t14 : tie.Need-add-t14
 add-t14 c = search needs
@@ -67,13 +67,16 @@ returns-4 c =
     let a = c .before .before .before .before .before .before .before .before .before .args in
     let m = allowed (c .before .before) in
     let e = start-seven (c .before .before .before .before .before) in
-    (sym (record-whole current (a .start) (a .at) (a .s .now) (omega arith) (m .0) e (omega arith)), (omega (arith, recordLength-at current (a .at) (a .s .now)), omega arith))
+    record {
+      number = sym (record-whole current (a .start) (a .at) (a .s .now) (omega arith) (m .0) e (omega arith));
+      ends-at = record { here = omega (arith, recordLength-at current (a .at) (a .s .now)); inside = omega arith };
+    }
 
 returns-5 : tie.Need-returns-5
 returns-5 c =
     let a = c .before .before .before .before .before .before .before .args in
     let above = fieldsOf-refused current _ (sym (ap fieldsSay (c .enum-told .given .1)) ∙ c .before .before .field-bytes .ensures) in
-    (sym (map-byte-above current (a .start) (a .at) (a .s .now) (omega arith) above), omega arith)
+    record { number = sym (map-byte-above current (a .start) (a .at) (a .s .now) (omega arith) above); ends-at = omega arith }
 
 pub record-end-spec : {M : Type 1} → statement M
 record-end-spec =

@@ -8,7 +8,7 @@ two-requires : tie.Need-two-requires
 two-requires c κs = search needs
 
 returns : tie.Need-returns
-returns c = rw (eq-eqb _ 1 (c .before .if1 .taken)) (c .two .ensures .0)
+returns c = rw (eq-eqb _ 1 (c .before .if1 .taken)) (c .two .ensures .same)
 
 returns-2 : tie.Need-returns-2
 returns-2 c = rw (ne-eqb _ 1 (c .if1 .left))

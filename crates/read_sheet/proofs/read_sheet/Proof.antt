@@ -2,9 +2,8 @@
 -- Assumes nothing.
 use mathlib.Core.Path.{_≡_, sym, subst}
 use native.Mathlib.Omega.{arith}
-use borrow.Author.Needs.{needs}
 use lib.ListN.{drop}
-use Rattle.sheet.specs.Sheet.{current, headerRecord}
+use Rattle.sheet.specs.Sheet.{current, headerLength, headerRecord}
 use Rattle.read_header.specs.HeaderRead.{countsOf, headerSays}
 use Rattle.read_header.specs.declared.Header.{Header}
 use Rattle.sheet.proofs.Acceptance.{good-counts}
@@ -14,16 +13,13 @@ use Rattle.read_sheet.proofs.read_sheet.Tie as tie
 
 -- the places on the way, each from a later one: the entry, where the header is read, where it was, and where the rest is read
 abbrev start : tie.After-read-header → tie.Start
-start c = c .before .before .before
+start c = c .before .before
 
 abbrev header : tie.After-c → tie.After-read-header
 header c = c .before .before
 
 abbrev counts : tie.After-read-body → tie.After-c
 counts c = c .before .before .before .before
-
-abbrev body : tie.After-slice-known2 → tie.After-read-body
-body c = c .before .before
 
 read-header-requires : tie.Need-read-header-requires
 read-header-requires c κs = tt
@@ -40,26 +36,37 @@ read-body-requires c κs =
     let s = start (header b) .args .s .now in
     let got = b .c .given in
     let told = header-says (header b) _ (got .1) in
-    let g = good-counts s (countsOf (got .0 .0)) (drop 5 s) (sym told) in
-    ((header-whole s (countsOf (got .0 .0)) (drop 5 s) told, (let b = g .nodes-least in omega arith), g .nodes-most, g .links-most), start (header b) .pre)
+    let g = good-counts s (countsOf (got .0 .0)) (drop headerLength s) (sym told) in
+    record {
+      header = header-whole s (countsOf (got .0 .0)) (drop headerLength s) told;
+      some = let b = g .nodes-least in omega arith;
+      few-nodes = g .nodes-most;
+      few-links = g .links-most;
+      arrays = start (header b) .pre;
+    }
 
 enum-known-n : tie.Need-enum-known-n
 enum-known-n c = c .match .keys2
 
-same-length : tie.Need-same-length
-same-length c = search needs
-
 returns : tie.Need-returns
 returns c =
-    let s = start (header (counts (body c))) .args .s .now in
-    let got = counts (body c) .c .given in
-    let r = body c .read-body .ensures in
-    (rw (← header-read current s (countsOf (got .0 .0)) (header-says (header (counts (body c))) _ (got .1))) (r .0), r .1)
+    let s = start (header (counts c)) .args .s .now in
+    let got = counts c .c .given in
+    let r = c .read-body .ensures in
+    record {
+      says = rw (← header-read current s (countsOf (got .0 .0)) (header-says (header (counts c)) _ (got .1))) (r .says);
+      trees-last = r .trees-last;
+      arrays = r .arrays;
+    }
 
 returns-2 : tie.Need-returns-2
 returns-2 c =
     let h = c .before .before .before in
-    (refused-by-header current (start h .args .s .now) (c .before .n .given .0 .0) (header-says h _ (c .before .n .given .1)), (tt, start h .pre .0))
+    record {
+      says = refused-by-header current (start h .args .s .now) (c .before .n .given .0 .0) (header-says h _ (c .before .n .given .1));
+      trees-last = tt;
+      arrays = start h .pre;
+    }
 
 pub read-sheet-spec : {M : Type 1} → statement M
 read-sheet-spec =
@@ -69,6 +76,5 @@ read-sheet-spec =
     enum-known-c
     read-body-requires
     enum-known-n
-    same-length
     returns
     returns-2)

@@ -11,16 +11,16 @@ use Rattle.search_sheet.proofs.place_record.Tie as tie
 
 -- where the function begins, from where the map is taken
 abbrev start : tie.After-map → tie.Start
-start c = c .before .before
+start c = c .before .before .before
 
 add-map-at : tie.Need-add-map-at
 add-map-at c = search needs
 
+map-length-requires : tie.Need-map-length-requires
+map-length-requires c κs = search needs
+
 add-end : tie.Need-add-end
 add-end c = search needs
-
-add-end-2 : tie.Need-add-end-2
-add-end-2 c = search needs
 
 sub-map : tie.Need-sub-map
 sub-map c = search needs
@@ -35,7 +35,12 @@ grow-tree-requires : tie.Need-grow-tree-requires
 grow-tree-requires c κs =
     let a = start c .args in
     let p = start c .pre in
-    ((mapAt-length (a .s .now) (a .at) (a .c .links) (p .0 .0), mapAt-counted (a .s .now) (a .at) (a .c .links) ∙ p .0 .1, p .1 .0, p .1 .1, p .1 .2), p .1 .3)
+    let e = c .before .map-length .ensures in
+    record {
+      sized = mapAt-length (a .s .now) (a .at) (a .c .links) _ e (p .inside);
+      counted = mapAt-counted (a .s .now) (a .at) (a .c .links) _ e ∙ p .counted;
+      links-known = p .links-known;
+    }
 
 place-tree-requires : tie.Need-place-tree-requires
 place-tree-requires c κs = search needs
@@ -44,21 +49,24 @@ returns : tie.Need-returns
 returns c =
     let m = c .before .before in
     let a = start m .args in
-    let p = start m .pre in (
-      c .place-tree .ensures .0,
-      λ net held count spanning.
+    let placed = c .place-tree .ensures in
+    record {
+      nodes-known = placed .nodes-known;
+      stops-known = placed .stops-known;
+      kept = λ net held count spanning.
           let t : Tree = treeIn net (drop (a .at) (a .s .now)) in
-          let g = c .before .grow-tree .ensures net t held count (mapAt-members (a .s .now) (a .at) (a .c .links) net count (p .0 .0)) in
-          c .place-tree .ensures .1 net t (record { spanning = spanning; ordered = g .ordered (g .joined ∙ spanning .spanning); counted = held .sized }),
-    )
+          let members = mapAt-members (a .s .now) (a .at) (a .c .links) _ (m .before .map-length .ensures) net count (start m .pre .inside) in
+          let g = c .before .grow-tree .ensures net t held count members in
+          placed .kept net t (record { spanning = spanning; ordered = g .ordered (g .joined ∙ spanning .spanning); counted = held .sized });
+    }
 
 pub place-record-spec : {M : Type 1} → statement M
 place-record-spec =
     tie.close
     (tie.spec
     add-map-at
+    map-length-requires
     add-end
-    add-end-2
     sub-map
     part-map-start
     part-map-end

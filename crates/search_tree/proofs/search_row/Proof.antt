@@ -7,9 +7,7 @@ use mathlib.Core.List.{List}
 use native.Mathlib.Omega.{arith}
 use Rattle.cuts.specs.Network.{Network, Tree}
 use Rattle.cuts.specs.Candidate.{Candidate, fewerNodes, ahead, weightOf}
-use Rattle.cuts.specs.Limits.{Light}
-use Rattle.arrays.specs.Kept.{Kept}
-use Rattle.tree_rows.specs.Rows.{Row}
+use Rattle.tree_rows.specs.Making.{RowHeld}
 use Rattle.tree_rows.proofs.PartLaws.{singlesIn-at}
 use Rattle.search_order.specs.Visits.{Reached}
 use Rattle.cuts.proofs.Demands.{ahead-weighing}
@@ -20,28 +18,27 @@ use Rattle.search_tree.proofs.search_row.Statement.{statement}
 use Rattle.search_tree.proofs.search_row.Tie as tie
 
 abbrev Inv-loop : tie.InvT-loop
-Inv-loop figures stops links nodes tree u link below best₀ v₀ best v =
-    (u < v) × (v ≤ nodes) × ((net : Network) (t : Tree) (c : Candidate) (place node : List ℕ) → Light net → net .nodes ≡ nodes
-    → Kept net t place node stops links → Row net t place stops links u figures
+Inv-loop figures nodes stops links tree u link below best₀ v₀ best v =
+    (u < v) × (v ≤ nodes) × ((net : Network) (t : Tree) (c : Candidate) (place node : List ℕ) → RowHeld net t place node stops links u figures → net .nodes ≡ nodes
     → Reached (ahead fewerNodes) c net tree t links u v₀ best₀ → Reached (ahead fewerNodes) c net tree t links u v best)
 
 abbrev μ-loop : tie.MeasureT-loop
-μ-loop figures stops links nodes tree u link below best₀ v₀ best v = nodes - v
+μ-loop figures nodes stops links tree u link below best₀ v₀ best v = nodes - v
 
 -- where the function begins, from where the link alone was tried
 abbrev start : tie.After-choose Inv-loop μ-loop → tie.Start Inv-loop μ-loop
-start c = c .before .before .before .before .before .before .before .before
+start c = c .before .before .before .before .before
 
 mul-link : tie.Need-mul-link Inv-loop μ-loop
 mul-link c = omega arith
 
-shared-slice-read-link : tie.Need-shared-slice-read-link Inv-loop μ-loop
-shared-slice-read-link c = omega arith
+element-copy-out-link : tie.Need-element-copy-out-link Inv-loop μ-loop
+element-copy-out-link c = omega arith
 
 single-count-requires : tie.Need-single-count-requires Inv-loop μ-loop
 single-count-requires c κs =
-    let s = c .before .before .before .before in
-    (s .pre .1, s .pre .2, omega arith)
+    let p = c .before .pre in
+    record { stops-known = p .stops-in; place = omega (arith, p .few-nodes, p .inside) }
 
 add-pair-of : tie.Need-add-pair-of Inv-loop μ-loop
 add-pair-of c = omega arith
@@ -49,8 +46,8 @@ add-pair-of c = omega arith
 mul-pair-of : tie.Need-mul-pair-of Inv-loop μ-loop
 mul-pair-of c = omega arith
 
-shared-slice-read-pair-of : tie.Need-shared-slice-read-pair-of Inv-loop μ-loop
-shared-slice-read-pair-of c = omega arith
+element-copy-out-pair-of : tie.Need-element-copy-out-pair-of Inv-loop μ-loop
+element-copy-out-pair-of c = omega arith
 
 pair-of-requires : tie.Need-pair-of-requires Inv-loop μ-loop
 pair-of-requires c κs = tt
@@ -62,27 +59,29 @@ add-next-light : tie.Need-add-next-light Inv-loop μ-loop
 add-next-light c = omega arith
 
 next-light-requires : tie.Need-next-light-requires Inv-loop μ-loop
-next-light-requires c κs = let p = start c .pre in (p .0, p .1, p .2, p .4, omega arith, omega (arith, p .6))
+next-light-requires c κs =
+    let p = start c .pre in
+    record { few-nodes = p .few-nodes; stops-in = p .stops-in; behind = omega arith; up-to = omega (arith, p .inside) }
 
 loop-holds : tie.Need-loop-holds Inv-loop μ-loop
-loop-holds c = let e = c .next-light .ensures .0 in (omega (arith, e .0), e .1, λ net t x place node i n k w r. r)
+loop-holds c = let e = c .next-light .ensures in (omega (arith, e .behind), e .up-to, λ net t x place node h n r. r)
 
 pair-weight-requires : tie.Need-pair-weight-requires Inv-loop μ-loop
 pair-weight-requires c κs =
-    let s = start (c .before .before .before) in
-    (s .pre .0, s .pre .1, s .pre .2, c .before .loop .inv .0, omega arith)
+    let p = start (c .before .before .before) .pre in
+    record { stops-in = p .stops-in; before = c .before .loop .inv .0; place-in = omega (arith, p .few-nodes) }
 
 pair-count-requires : tie.Need-pair-count-requires Inv-loop μ-loop
 pair-count-requires c κs =
     let l = c .before .before in
-    let s = start (l .before .before) in
-    (s .pre .1, s .pre .2, l .loop .inv .0, omega arith)
+    let p = start (l .before .before) .pre in
+    record { stops-known = p .stops-in; rises = l .loop .inv .0; place = omega (arith, p .few-nodes) }
 
 mul-pair-of-2 : tie.Need-mul-pair-of-2 Inv-loop μ-loop
 mul-pair-of-2 c = omega arith
 
-shared-slice-read-pair-of-2 : tie.Need-shared-slice-read-pair-of-2 Inv-loop μ-loop
-shared-slice-read-pair-of-2 c = omega arith
+element-copy-out-pair-of-2 : tie.Need-element-copy-out-pair-of-2 Inv-loop μ-loop
+element-copy-out-pair-of-2 c = omega arith
 
 pair-of-requires-2 : tie.Need-pair-of-requires-2 Inv-loop μ-loop
 pair-of-requires-2 c κs = tt
@@ -95,16 +94,16 @@ abbrev turn : tie.After-comes-first Inv-loop μ-loop → tie.At-loop Inv-loop μ
 turn c = c .before .before .before .before .before .before
 
 add-next-light-2 : tie.Need-add-next-light-2 Inv-loop μ-loop
-add-next-light-2 c = omega (arith, start (turn (c .before) .before .before) .pre .4)
+add-next-light-2 c = omega (arith, start (turn (c .before) .before .before) .pre .few-nodes)
 
 next-light-requires-2 : tie.Need-next-light-requires-2 Inv-loop μ-loop
 next-light-requires-2 c κs =
     let l = turn (c .before) in
     let p = start (l .before .before) .pre in
-    (p .0, p .1, p .2, p .4, omega (arith, l .loop .inv .0), omega arith)
+    record { few-nodes = p .few-nodes; stops-in = p .stops-in; behind = omega (arith, l .loop .inv .0); up-to = omega arith }
 
 loop-less : tie.Need-loop-less Inv-loop μ-loop
-loop-less c = omega (arith, c .next-light2 .ensures .0 .0)
+loop-less c = omega (arith, c .next-light2 .ensures .behind)
 
 loop-again : tie.Need-loop-again Inv-loop μ-loop
 loop-again c =
@@ -114,42 +113,43 @@ loop-again c =
     let u = s .args .u in
     let ls = s .args .links .now in
     let e = c .next-light2 .ensures in (
-      omega (arith, l .inv .0, e .0 .0),
-      e .0 .1,
-      λ net t x place node i n k w r.
+      omega (arith, l .inv .0, e .behind),
+      e .up-to,
+      λ net t x place node h n r.
           let q : l .v < net .nodes = omega arith in
-          let z : 0 < u = s .pre .5 in
-          let reached = l .inv .2 net t x place node i n k w r in
-          let weight = tried .before .before .before .before .pair-weight .ensures net t place node ls i k w z q ∙ ap (weightOf net t) (pair-at (k .links-at) u (l .v) z (l .inv .0) q) in
+          let k = h .kept in
+          let z = h .some in
+          let reached = l .inv .2 net t x place node h n r in
+          let weight = tried .before .before .before .before .pair-weight .ensures net t place node ls h q ∙ ap (weightOf net t) (pair-at (k .links-at) u (l .v) z (l .inv .0) q) in
           let says = says-pair net t ls u (l .v) (tried .before .pair-of2 .ensures) weight (tried .before .before .before .pair-count .ensures net t place node ls k z q) in
           reached-run u (l .v + 1) z (omega (arith, l .inv .0))
           (⊎-elim
           (λ m. rw (m .1) (reached-taken u (l .v) z (omega (arith, l .inv .0)) q reached says (sym (tried .comes-first .ensures) ∙ m .0 .taken)))
           (λ m. rw (m .1) (reached-kept u (l .v) z (omega (arith, l .inv .0)) q reached says (sym (tried .comes-first .ensures) ∙ m .0 .left)))
           (c .before .if1 .came))
-          (c .next-light2 .result) (e .0 .0) (omega (arith, e .0 .1)) (e .1 net t place node ls i n k w z .0),
+          (c .next-light2 .result) (e .behind) (omega (arith, e .up-to)) (e .heavy net t place node ls h n),
     )
 
 returns : tie.Need-returns Inv-loop μ-loop
 returns c =
-    λ net t x place node i n k w r.
+    λ net t x place node h n r.
     let l = c .before .loop in
     let g = c .before .before in
     let f = g .before in
     let s = start f in
     let u = s .args .u in
     let ls = s .args .links .now in
-    let z : 0 < u = s .pre .5 in
-    let d : u < net .nodes = omega (arith, s .pre .6) in
+    let z = h .some in
+    let d : u < net .nodes = omega (arith, s .pre .inside) in
     let all : l .v ≡ s .args .nodes = let b = l .inv .1 in let d = c .loop-test .left in omega arith in
-    let weight = sym (singlesIn-at (s .args .figures .now) u (omega arith)) ∙ w .alone u (omega arith) d ∙ ap (weightOf net t) (sym (handle-one ls u)) in
-    let alone = says-pair net t ls u u (f .before .pair-of .ensures) weight (f .before .before .before .single-count .ensures net t place node ls k z d) in
+    let weight = sym (singlesIn-at (s .args .figures .now) u (omega arith)) ∙ h .row .alone u (omega arith) d ∙ ap (weightOf net t) (sym (handle-one ls u)) in
+    let alone = says-pair net t ls u u (f .before .pair-of .ensures) weight (f .before .before .before .single-count .ensures net t place node ls (h .kept) z d) in
     let e = g .next-light .ensures in
     subst (λ (v : ℕ). Reached (ahead fewerNodes) x net (s .args .tree) t ls u v (l .best)) all
-    (l .inv .2 net t x place node i n k w
+    (l .inv .2 net t x place node h n
     (reached-run u (u + 1) z (omega arith)
     (reached-step (ahead-weighing fewerNodes .order) u u z (omega arith) d (reached-row u (s .args .nodes) (omega arith) r) (λ y said. f .choose .ensures y _ said alone))
-    (g .next-light .result) (e .0 .0) (omega (arith, e .0 .1)) (e .1 net t place node ls i n k w z .0)))
+    (g .next-light .result) (e .behind) (omega (arith, e .up-to)) (e .heavy net t place node ls h n)))
 
 pub search-row-spec : {M : Type 1} → statement M
 search-row-spec =
@@ -158,11 +158,11 @@ search-row-spec =
     Inv-loop
     μ-loop
     mul-link
-    shared-slice-read-link
+    element-copy-out-link
     single-count-requires
     add-pair-of
     mul-pair-of
-    shared-slice-read-pair-of
+    element-copy-out-pair-of
     pair-of-requires
     choose-requires
     add-next-light
@@ -171,7 +171,7 @@ search-row-spec =
     pair-weight-requires
     pair-count-requires
     mul-pair-of-2
-    shared-slice-read-pair-of-2
+    element-copy-out-pair-of-2
     pair-of-requires-2
     comes-first-requires
     add-next-light-2

@@ -14,20 +14,17 @@ slice-aggregate-weigh-places-2 c = search needs
 weigh-places-requires : tie.Need-weigh-places-requires
 weigh-places-requires c κs = search needs
 
-slice-aggregate-search-rows : tie.Need-slice-aggregate-search-rows
-slice-aggregate-search-rows c = search needs
-
 search-rows-requires : tie.Need-search-rows-requires
 search-rows-requires c κs = search needs
 
 returns : tie.Need-returns
 returns c =
-    let w = c .before .before .before .before in
-    let s = w .before .before .before .before .before .before .before in
-    λ net t x count e d k p says.
-    let n = e .laid .held .sized in
-    c .before .search-rows .ensures net t x count e k
-    (degrees-weighted k (e .loopless) (s .args .degrees .now) _ d (omega (arith, s .pre .0 .3)) (w .weigh-places .ensures)) p says
+    let w = c .before .before .before in
+    let s = w .before .before .before .before in
+    λ net t x h d p says.
+    let n = h .indexed .laid .held .sized in
+    c .search-rows .ensures net t x h
+    (degrees-weighted (h .kept) (h .indexed .loopless) (s .args .degrees .now) _ d (omega (arith, s .pre .few-nodes)) (w .weigh-places .ensures .0)) p says
 
 pub search-tree-spec : {M : Type 1} → statement M
 search-tree-spec =
@@ -36,6 +33,5 @@ search-tree-spec =
     slice-aggregate-weigh-places
     slice-aggregate-weigh-places-2
     weigh-places-requires
-    slice-aggregate-search-rows
     search-rows-requires
     returns)

@@ -31,7 +31,16 @@ grow-queue-requires : tie.Need-grow-queue-requires
 grow-queue-requires c κs =
     let l = c .before .before .before .before .before .list-by-node in
     let s = c .before .before .before .before .before .before .before .before .before .before in
-    ((search needs, search needs, search needs), ((s .pre .0 .0, s .pre .0 .1, omega (arith, l .kept)), (take (s .args .count) (s .args .members .now), l .ensures)))
+    record {
+      order-room = search needs;
+      parents-room = search needs;
+      uplinks-room = search needs;
+      some = s .pre .some;
+      few-nodes = s .pre .chosen .few-nodes;
+      starts-there = omega (arith, l .kept);
+      links = take (s .args .count) (s .args .members .now);
+      by-node = l .ensures;
+    }
 
 returns : tie.Need-returns
 returns c =

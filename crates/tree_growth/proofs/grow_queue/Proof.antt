@@ -20,18 +20,18 @@ use Rattle.tree_growth.proofs.grow_queue.Statement.{statement}
 use Rattle.tree_growth.proofs.grow_queue.Tie as tie
 
 abbrev Inv-loop2 : tie.InvT-loop2
-Inv-loop2 order₀ parents₀ uplinks₀ firsts seconds lists nodes head list reached₀ found₀ i x stop j₀ order parents uplinks reached found j =
+Inv-loop2 order₀ parents₀ uplinks₀ nodes firsts seconds lists head list reached₀ found₀ i x stop j₀ order parents uplinks reached found j =
     Row firsts seconds head list nodes reached order parents uplinks i found x j
 
 abbrev μ-loop2 : tie.MeasureT-loop2
-μ-loop2 order₀ parents₀ uplinks₀ firsts seconds lists nodes head list reached₀ found₀ i x stop j₀ order parents uplinks reached found j = stop - j
+μ-loop2 order₀ parents₀ uplinks₀ nodes firsts seconds lists head list reached₀ found₀ i x stop j₀ order parents uplinks reached found j = stop - j
 
 abbrev Inv-loop : tie.InvT-loop
-Inv-loop order₀ parents₀ uplinks₀ firsts seconds lists nodes head list reached₀ found₀ i₀ order parents uplinks reached found i =
+Inv-loop order₀ parents₀ uplinks₀ nodes firsts seconds lists head list reached₀ found₀ i₀ order parents uplinks reached found i =
     Run firsts seconds head list nodes reached order parents uplinks i found
 
 abbrev μ-loop : tie.MeasureT-loop
-μ-loop order₀ parents₀ uplinks₀ firsts seconds lists nodes head list reached₀ found₀ i₀ order parents uplinks reached found i = 256 - i
+μ-loop order₀ parents₀ uplinks₀ nodes firsts seconds lists head list reached₀ found₀ i₀ order parents uplinks reached found i = 256 - i
 
 -- where the function begins, and where the node is taken
 abbrev start : tie.At-loop Inv-loop2 μ-loop2 Inv-loop μ-loop → tie.Start Inv-loop2 μ-loop2 Inv-loop μ-loop
@@ -62,10 +62,10 @@ x-in c = let l = c .before .before .loop in l .inv .queue .within (l .i) (x-next
 k-known : (c : tie.In-loop2 Inv-loop2 μ-loop2 Inv-loop μ-loop)
     → let a = start (run c) .args in
     Ending (a .firsts .now) (a .seconds .now) (a .nodes) (entry (behind (a .lists .now)) (c .before .loop2 .j))
-k-known c = run-known (lent (start (run c) .args .lists .now) (start (run c) .pre .1 .1 .1)) (x-in (c .before .before .before .before .before)) (c .before .loop2 .inv .begun) (c .loop2-test .taken)
+k-known c = run-known (lent (start (run c) .args .lists .now) (start (run c) .pre .by-node)) (x-in (c .before .before .before .before .before)) (c .before .loop2 .inv .begun) (c .loop2-test .taken)
 
 k-room : (c : tie.In-loop2 Inv-loop2 μ-loop2 Inv-loop μ-loop) → c .before .loop2 .j < length (behind (start (run c) .args .lists .now))
-k-room c = let t = c .loop2-test .taken in let r = lent (start (run c) .args .lists .now) (start (run c) .pre .1 .1 .1) .room _ (x-in (c .before .before .before .before .before)) in omega arith
+k-room c = let t = c .loop2-test .taken in let r = lent (start (run c) .args .lists .now) (start (run c) .pre .by-node) .room _ (x-in (c .before .before .before .before .before)) in omega arith
 
 -- the node at its far end
 y-in : (c : tie.After-far-end Inv-loop2 μ-loop2 Inv-loop μ-loop) → c .far-end .result < start (run (c .before .before .before .before)) .args .nodes

@@ -1,5 +1,5 @@
--- `tree_places::gather` meets its contract. The loop's invariant: the places below p have what belongs to their nodes, and all numbers stay
--- within 256 where those to be gathered are. A turn gathers one more.
+-- `tree_places::gather` meets its contract. The loop's invariant: the places below p have what belongs to their nodes, and the stops
+-- are known where those to be gathered are. A turn gathers one more.
 -- Assumes nothing.
 use Prim.Native.Nat.{ℕ, _-_, _≤_, _<_}
 use mathlib.Core.Path.{_≡_, refl}
@@ -9,8 +9,9 @@ use lib.ListN.{length, length-set}
 use mir.Syntax.{w8}
 use mir.Val.{Fits}
 use borrow.Author.Needs.{needs}
-use Rattle.arrays.specs.Lists.{entry, Within}
-use Rattle.tree_places.specs.Places.{Gathered}
+use Rattle.cuts.specs.Limits.{mostNodes}
+use Rattle.arrays.specs.Lists.{entry}
+use Rattle.tree_places.specs.Places.{stopNumbers, StopsKnown, Gathered}
 use Rattle.tree_places.proofs.SmallLaws.{zeros-within, set-within}
 use Rattle.tree_places.proofs.KeptLaws.{gathered-more}
 use Rattle.tree_places.proofs.gather.Statement.{statement}
@@ -18,13 +19,13 @@ use Rattle.tree_places.proofs.gather.Tie as tie
 
 abbrev Inv-loop : tie.InvT-loop
 Inv-loop nodes node from out₀ p₀ out p =
-    (length out ≡ 256) × (p ≤ nodes) × Gathered out node from p × (Within from 256 257 → Within out 256 257)
+    (length out ≡ mostNodes) × (p ≤ nodes) × Gathered out node from p × (StopsKnown from → StopsKnown out)
 
 abbrev μ-loop : tie.MeasureT-loop
 μ-loop nodes node from out₀ p₀ out p = nodes - p
 
 loop-holds : tie.Need-loop-holds Inv-loop μ-loop
-loop-holds c = (refl, omega arith, (λ q b. absurd (omega arith)), λ _. zeros-within 257 (omega arith))
+loop-holds c = (refl, omega arith, (λ q b. absurd (omega arith)), λ _. zeros-within stopNumbers (omega arith))
 
 array-read-x : tie.Need-array-read-x Inv-loop μ-loop
 array-read-x c = omega arith
@@ -33,8 +34,8 @@ cast-x : tie.Need-cast-x Inv-loop μ-loop
 cast-x c = search needs
 
 -- nodes are bytes
-node-small : (c : tie.In-loop Inv-loop μ-loop) (k : ℕ) → entry (c .before .before .args .t1) k < 256
-node-small c k = let f : Fits w8 (entry (c .before .before .args .t1) k) = search needs in omega arith
+node-small : (c : tie.In-loop Inv-loop μ-loop) (k : ℕ) → entry (c .before .before .args .t2) k < 256
+node-small c k = let f : Fits w8 (entry (c .before .before .args .t2) k) = search needs in omega arith
 
 mul-out : tie.Need-mul-out Inv-loop μ-loop
 mul-out c = omega (arith, node-small c (c .before .loop .p))
@@ -60,12 +61,12 @@ loop-again c =
     let l = c .before .loop in (
       simp length-set (l .inv .0),
       omega arith,
-      rw add-one (gathered-more (l .out) (a .t1) (a .t2) (l .p) (omega arith) (l .inv .2)),
-      λ w. set-within (l .out) (l .p) _ 257 (l .inv .0) (w _ (node-small c (l .p))) (l .inv .3 w),
+      rw add-one (gathered-more (l .out) (a .t2) (a .t3) (l .p) (omega arith) (l .inv .2)),
+      λ w. set-within (l .out) (l .p) _ stopNumbers (l .inv .0) (w _ (node-small c (l .p))) (l .inv .3 w),
     )
 
 returns : tie.Need-returns Inv-loop μ-loop
-returns c = let l = c .before .loop in ((λ p b. l .inv .2 p (omega arith)), l .inv .3)
+returns c = let l = c .before .loop in record { gathered = λ p b. l .inv .2 p (omega arith); stops-known = l .inv .3 }
 
 pub gather-spec : {M : Type 1} → statement M
 gather-spec =

@@ -11,6 +11,7 @@ use mir.Syntax.{w8}
 use mir.Val.{Fits}
 use borrow.Author.Needs.{needs}
 use Rattle.cuts.specs.Network.{Network, Tree}
+use Rattle.cuts.specs.Limits.{mostNodes}
 use Rattle.arrays.specs.Lists.{entry}
 use Rattle.tree_places.specs.Places.{Rooted}
 use Rattle.tree_places.specs.Passes.{Heavy}
@@ -20,7 +21,7 @@ use Rattle.tree_places.proofs.heaviest_children.Tie as tie
 
 abbrev Inv-loop : tie.InvT-loop
 Inv-loop nodes order parents sizes heavy₀ i₀ heavy i =
-    (length heavy ≡ 256) × (0 < i) × (i ≤ nodes)
+    (length heavy ≡ mostNodes) × (0 < i) × (i ≤ nodes)
     × ((net : Network) (t : Tree) (uplinks : List ℕ) → Rooted net t order parents uplinks nodes → Heavy order parents sizes heavy i)
 
 abbrev μ-loop : tie.MeasureT-loop
@@ -28,17 +29,17 @@ abbrev μ-loop : tie.MeasureT-loop
 
 loop-holds : tie.Need-loop-holds Inv-loop μ-loop
 loop-holds c =
-    (refl, omega arith, omega arith, λ net t uplinks w. heavy-start _ _ _ _ 1 (omega arith) (λ x b. getD-replicate {A = ℕ} 256 x 0 0 b))
+    (refl, omega arith, omega arith, λ net t uplinks w. heavy-start _ _ _ _ 1 (omega arith) (λ x b. getD-replicate {A = ℕ} mostNodes x 0 0 b))
 
 -- the order and the parents are bytes
 abbrev entered : tie.In-loop Inv-loop μ-loop → tie.Start Inv-loop μ-loop
 entered c = c .before .before
 
-order-small : (c : tie.In-loop Inv-loop μ-loop) (k : ℕ) → entry (entered c .args .t1) k < 256
-order-small c k = let f : Fits w8 (entry (entered c .args .t1) k) = search needs in omega arith
+order-small : (c : tie.In-loop Inv-loop μ-loop) (k : ℕ) → entry (entered c .args .t2) k < 256
+order-small c k = let f : Fits w8 (entry (entered c .args .t2) k) = search needs in omega arith
 
-parent-small : (c : tie.In-loop Inv-loop μ-loop) (k : ℕ) → entry (entered c .args .t2) k < 256
-parent-small c k = let f : Fits w8 (entry (entered c .args .t2) k) = search needs in omega arith
+parent-small : (c : tie.In-loop Inv-loop μ-loop) (k : ℕ) → entry (entered c .args .t3) k < 256
+parent-small c k = let f : Fits w8 (entry (entered c .args .t3) k) = search needs in omega arith
 
 array-read-x : tie.Need-array-read-x Inv-loop μ-loop
 array-read-x c = omega arith

@@ -11,6 +11,7 @@ use mir.Syntax.{w8}
 use mir.Val.{Fits}
 use borrow.Author.Needs.{needs}
 use Rattle.cuts.specs.Network.{Network, Tree}
+use Rattle.cuts.specs.Limits.{mostNodes}
 use Rattle.arrays.specs.Lists.{entry, Within}
 use Rattle.tree_places.specs.Places.{Preorder}
 use Rattle.tree_places.proofs.SmallLaws.{zeros-within, set-within}
@@ -20,7 +21,7 @@ use Rattle.tree_places.proofs.nodes_by_place.Tie as tie
 
 abbrev Inv-loop : tie.InvT-loop
 Inv-loop nodes place node₀ x₀ node x =
-    (length node ≡ 256) × (x ≤ nodes) × Within node 256 nodes
+    (length node ≡ mostNodes) × (x ≤ nodes) × Within node mostNodes nodes
     × ((net : Network) (t : Tree) (uplinks stop : List ℕ) → Preorder net t uplinks place stop → net .nodes ≡ nodes
     → (y : ℕ) → y < x → entry node (entry place y) ≡ y)
 
@@ -28,7 +29,7 @@ abbrev μ-loop : tie.MeasureT-loop
 μ-loop nodes place node₀ x₀ node x = nodes - x
 
 loop-holds : tie.Need-loop-holds Inv-loop μ-loop
-loop-holds c = (refl, omega arith, zeros-within (c .args .nodes) (c .pre .0), λ net t uplinks stop k q y b. absurd (omega arith))
+loop-holds c = (refl, omega arith, zeros-within (c .args .nodes) (c .pre .some), λ net t uplinks stop k q y b. absurd (omega arith))
 
 array-read-p : tie.Need-array-read-p Inv-loop μ-loop
 array-read-p c = omega arith
@@ -40,8 +41,8 @@ cast-node : tie.Need-cast-node Inv-loop μ-loop
 cast-node c = omega arith
 
 -- places are bytes
-place-small : (c : tie.In-loop Inv-loop μ-loop) (k : ℕ) → entry (c .before .before .args .t1) k < 256
-place-small c k = let f : Fits w8 (entry (c .before .before .args .t1) k) = search needs in omega arith
+place-small : (c : tie.In-loop Inv-loop μ-loop) (k : ℕ) → entry (c .before .before .args .t2) k < 256
+place-small c k = let f : Fits w8 (entry (c .before .before .args .t2) k) = search needs in omega arith
 
 array-write-node : tie.Need-array-write-node Inv-loop μ-loop
 array-write-node c = place-small c _
@@ -64,7 +65,7 @@ loop-again c =
 returns : tie.Need-returns Inv-loop μ-loop
 returns c =
     let l = c .before .loop in
-    (l .inv .2, λ net t uplinks stop k q y b. l .inv .3 net t uplinks stop k q y (omega arith))
+    record { nodes-known = l .inv .2; by-place = λ net t uplinks stop k q y b. l .inv .3 net t uplinks stop k q y (omega arith) }
 
 pub nodes-by-place-spec : {M : Type 1} → statement M
 nodes-by-place-spec =

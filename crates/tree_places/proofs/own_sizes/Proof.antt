@@ -1,4 +1,4 @@
--- `tree_places::own_sizes` meets its contract: one is written to each of the 256 numbers in turn. Assumes nothing.
+-- `tree_places::own_sizes` meets its contract: one is written to each number in turn. Assumes nothing.
 use Prim.Native.Nat.{ℕ, _-_, _≤_, _<_}
 use mathlib.Core.Path.{_≡_, refl, _∙_}
 use native.Mathlib.Omega.{arith}
@@ -6,15 +6,16 @@ use native.Mathlib.Numerals.{add-one}
 use lib.ListN.{length, set, length-set}
 use lib.Seq.{getD-set-same, getD-set-other}
 use Rattle.cuts.proofs.SumLaws.{all-suc}
+use Rattle.cuts.specs.Limits.{mostNodes}
 use Rattle.arrays.specs.Lists.{entry}
 use Rattle.tree_places.proofs.own_sizes.Statement.{statement}
 use Rattle.tree_places.proofs.own_sizes.Tie as tie
 
 abbrev Inv-loop : tie.InvT-loop
-Inv-loop sizes₀ x₀ sizes x = (length sizes ≡ 256) × (x ≤ 256) × ((y : ℕ) → y < x → entry sizes y ≡ 1)
+Inv-loop sizes₀ x₀ sizes x = (length sizes ≡ mostNodes) × (x ≤ mostNodes) × ((y : ℕ) → y < x → entry sizes y ≡ 1)
 
 abbrev μ-loop : tie.MeasureT-loop
-μ-loop sizes₀ x₀ sizes x = 256 - x
+μ-loop sizes₀ x₀ sizes x = mostNodes - x
 
 loop-holds : tie.Need-loop-holds Inv-loop μ-loop
 loop-holds c = (refl, omega arith, λ y b. absurd (omega arith))

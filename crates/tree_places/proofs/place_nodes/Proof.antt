@@ -1,4 +1,4 @@
--- `tree_places::place_nodes` meets its contract. The loop's invariant: every place is a byte and every stop at most 256, and of every tree that
+-- `tree_places::place_nodes` meets its contract. The loop's invariant: every place is a byte and every stop known, and of every tree that
 -- the order, the sizes and the heaviest children fit, the nodes before position i have their places. A turn gives one node more its place,
 -- from its parent's.
 -- Assumes nothing.
@@ -16,8 +16,9 @@ use mir.Val.{Fits}
 use borrow.Author.Needs.{needs}
 use borrow.Author.Tests.{eq-eqb, ne-eqb}
 use Rattle.cuts.specs.Network.{Network, Tree}
+use Rattle.cuts.specs.Limits.{mostNodes}
 use Rattle.arrays.specs.Lists.{entry, Within}
-use Rattle.tree_places.specs.Places.{Rooted, Sized, Heaviest}
+use Rattle.tree_places.specs.Places.{stopNumbers, StopsKnown, Rooted, Sized, Heaviest}
 use Rattle.tree_places.specs.Passes.{seat, Placing}
 use Rattle.tree_places.proofs.SmallLaws.{zeros-within, set-within}
 use Rattle.tree_places.proofs.PlaceLaws.{placing-first, placing-turn}
@@ -27,7 +28,7 @@ use Rattle.tree_places.proofs.place_nodes.Tie as tie
 
 abbrev Inv-loop : tie.InvT-loop
 Inv-loop nodes order parents sizes heavy place₀ stop₀ free₀ i₀ place stop free i =
-    (length place ≡ 256) × (length stop ≡ 256) × (length free ≡ 256) × (0 < i) × (i ≤ nodes) × Within place 256 256 × Within stop 256 257
+    (length place ≡ mostNodes) × (length stop ≡ mostNodes) × (length free ≡ mostNodes) × (0 < i) × (i ≤ nodes) × Within place mostNodes mostNodes × StopsKnown stop
     × ((net : Network) (t : Tree) (uplinks : List ℕ) → Rooted net t order parents uplinks nodes → Sized net t uplinks sizes → Heaviest net parents sizes heavy
     → Placing net order parents sizes heavy i place stop free)
 
@@ -58,30 +59,30 @@ settle-requires c κs = omega arith
 
 loop-holds : tie.Need-loop-holds Inv-loop μ-loop
 loop-holds c =
-    let zeros : List ℕ = replicate 256 0 in
+    let zeros : List ℕ = replicate mostNodes 0 in
     let e = c .settle .ensures in (
-      rw (e .0),
-      rw (e .1),
-      rw (e .2),
+      rw (e .place-set),
+      rw (e .stop-set),
+      rw (e .free-set),
       omega arith,
       omega arith,
-      rw (e .0) (set-within zeros 0 0 256 refl (omega arith) (zeros-within 256 (omega arith))),
-      rw (e .1) (set-within zeros 0 ((0 + entry (started c .args .t3) 0) % 257) 257 refl (omega arith) (zeros-within 257 (omega arith))),
-      λ net t uplinks w s m. rw (e .0, e .1, e .2, c .before .size-in .ensures) (placing-first w s m (omega arith) zeros zeros zeros refl refl refl),
+      rw (e .place-set) (set-within zeros 0 0 mostNodes refl (omega arith) (zeros-within mostNodes (omega arith))),
+      rw (e .stop-set) (set-within zeros 0 ((0 + entry (started c .args .t4) 0) % stopNumbers) stopNumbers refl (omega arith) (zeros-within stopNumbers (omega arith))),
+      λ net t uplinks w s m. rw (e .place-set, e .stop-set, e .free-set, c .before .size-in .ensures) (placing-first w s m (omega arith) zeros zeros zeros refl refl refl),
     )
 
 -- the order and the parents are bytes
-order-small : (c : tie.In-loop Inv-loop μ-loop) (k : ℕ) → entry (entered c .args .t1) k < 256
-order-small c k = let f : Fits w8 (entry (entered c .args .t1) k) = search needs in omega arith
+order-small : (c : tie.In-loop Inv-loop μ-loop) (k : ℕ) → entry (entered c .args .t2) k < 256
+order-small c k = let f : Fits w8 (entry (entered c .args .t2) k) = search needs in omega arith
 
-parent-small : (c : tie.In-loop Inv-loop μ-loop) (k : ℕ) → entry (entered c .args .t2) k < 256
-parent-small c k = let f : Fits w8 (entry (entered c .args .t2) k) = search needs in omega arith
+parent-small : (c : tie.In-loop Inv-loop μ-loop) (k : ℕ) → entry (entered c .args .t3) k < 256
+parent-small c k = let f : Fits w8 (entry (entered c .args .t3) k) = search needs in omega arith
 
 abbrev node : tie.In-loop Inv-loop μ-loop → ℕ
-node c = entry (entered c .args .t1) (c .before .loop .i)
+node c = entry (entered c .args .t2) (c .before .loop .i)
 
 abbrev parent : tie.In-loop Inv-loop μ-loop → ℕ
-parent c = entry (entered c .args .t2) (node c)
+parent c = entry (entered c .args .t3) (node c)
 
 array-read-x : tie.Need-array-read-x Inv-loop μ-loop
 array-read-x c = omega arith
@@ -162,14 +163,14 @@ turn : (c : tie.Joined1 Inv-loop μ-loop) →
     let l = c .before .before .loop in
     let x = node (c .before) in
     let p = parent (c .before) in
-    (c .if1 .at ≡ seat (a .t4) (l .place) (l .free) p x)
-    × (c .if1 .free ≡ cond (eqb (entry (a .t4) p) x) (l .free) (set (l .free) p ((entry (l .free) p + entry (a .t3) x) % 257)))
+    (c .if1 .at ≡ seat (a .t5) (l .place) (l .free) p x)
+    × (c .if1 .free ≡ cond (eqb (entry (a .t5) p) x) (l .free) (set (l .free) p ((entry (l .free) p + entry (a .t4) x) % stopNumbers)))
 turn c = ⊎-elim
     (λ w. let n = ne-eqb _ _ (w .0 .taken) in (rw n (w .3), rw n (w .2 ∙ ap (set (c .before .before .loop .free) (parent (c .before))) (w .1 .ensures))))
     (λ w. let n = eq-eqb _ _ (w .0 .left) in (rw n (w .2), rw n (w .1)))
     (c .if1 .came)
 
-free-length : (c : tie.Joined1 Inv-loop μ-loop) → length (c .if1 .free) ≡ 256
+free-length : (c : tie.Joined1 Inv-loop μ-loop) → length (c .if1 .free) ≡ mostNodes
 free-length c =
     let e = c .before .before .loop .inv .2 in
     ⊎-elim (λ w. ap length (w .2) ∙ simp length-set e) (λ w. ap length (w .1) ∙ e) (c .if1 .came)
@@ -179,17 +180,17 @@ loop-again c =
     let j = met c in
     let l = j .before .before .loop in
     let b = j .before .loop-test .taken in
-    let q = entered (j .before) .pre .1 in
+    let q = entered (j .before) .pre .few-nodes in
     let e = c .settle2 .ensures in (
-      rw (e .0, length-set) (l .inv .0),
-      rw (e .1, length-set) (l .inv .1),
-      rw (e .2, length-set) (free-length j),
+      rw (e .place-set, length-set) (l .inv .0),
+      rw (e .stop-set, length-set) (l .inv .1),
+      rw (e .free-set, length-set) (free-length j),
       omega arith,
       omega (arith, b),
-      rw (e .0) (set-within (l .place) _ _ 256 (l .inv .0) (omega arith) (l .inv .5)),
-      rw (e .1) (set-within (l .stop) _ _ 257 (l .inv .1) (omega arith) (l .inv .6)),
+      rw (e .place-set) (set-within (l .place) _ _ mostNodes (l .inv .0) (omega arith) (l .inv .5)),
+      rw (e .stop-set) (set-within (l .stop) _ _ stopNumbers (l .inv .1) (omega arith) (l .inv .6)),
       λ net t uplinks w s m.
-          rw (add-one, e .0, e .1, e .2, c .before .size-in2 .ensures)
+          rw (add-one, e .place-set, e .stop-set, e .free-set, c .before .size-in2 .ensures)
           (placing-turn w s m q (l .i) (l .place) (l .stop) (l .free) (l .inv .3) b (l .inv .7 net t uplinks w s m)
           (l .inv .0) (l .inv .1) (l .inv .2) (j .if1 .at) (turn j .0) (j .if1 .free) (turn j .1)),
     )
@@ -197,7 +198,10 @@ loop-again c =
 returns : tie.Need-returns Inv-loop μ-loop
 returns c =
     let l = c .before .loop in
-    (l .inv .6, λ net t uplinks w s m. placing-last w s m (l .i) (l .place) (l .stop) (l .free) (omega arith) (l .inv .7 net t uplinks w s m))
+    record {
+      stops-known = l .inv .6;
+      placed = λ net t uplinks w s m. placing-last w s m (l .i) (l .place) (l .stop) (l .free) (omega arith) (l .inv .7 net t uplinks w s m);
+    }
 
 pub place-nodes-spec : {M : Type 1} → statement M
 place-nodes-spec =

@@ -30,12 +30,16 @@ returns c =
     let b = c .before .before .before .before .before in
     let s = b .place-nodes in
     let stops = c .before .gather in
-    let links = c .gather2 in (
-      (n .ensures .0, stops .ensures .1 (s .ensures .0)),
-      λ net t r.
-          let o = s .ensures .1 net t _ r (b .before .before .subtree-sizes .ensures net t _ r) (b .before .heaviest-children .ensures net t _ r) .0 in
-          preorder-kept r o (n .result) (stops .result) (links .result) (n .ensures .1 net t _ _ o (r .counted)) (stops .ensures .0) (links .ensures .0),
-    )
+    let links = c .gather2 in
+    record {
+      nodes-known = n .ensures .nodes-known;
+      stops-known = stops .ensures .stops-known (s .ensures .stops-known);
+      kept = λ net t r.
+          let sized = b .before .before .subtree-sizes .ensures net t _ r in
+          let o = s .ensures .placed net t _ r sized (b .before .heaviest-children .ensures net t _ r) .preorder in
+          preorder-kept r o (n .result) (stops .result) (links .result) (n .ensures .by-place net t _ _ o (r .counted))
+          (stops .ensures .gathered) (links .ensures .gathered);
+    }
 
 pub place-tree-spec : {M : Type 1} → statement M
 place-tree-spec =

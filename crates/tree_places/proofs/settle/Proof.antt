@@ -33,7 +33,11 @@ element-write-free : tie.Need-element-write-free
 element-write-free c = search needs
 
 returns : tie.Need-returns
-returns c = (refl, rw (c .before .sum2 .ensures), rw (c .sum3 .ensures, c .before .before .sum .ensures))
+returns c = record {
+  place-set = refl;
+  stop-set = rw (c .before .sum2 .ensures);
+  free-set = rw (c .sum3 .ensures, c .before .before .sum .ensures);
+}
 
 pub settle-spec : {M : Type 1} → statement M
 settle-spec =

@@ -10,6 +10,7 @@ use borrow.Author.Needs.{needs}
 use mir.Val.{Fits}
 use mir.Syntax.{w8}
 use Rattle.cuts.specs.Network.{Network, Tree}
+use Rattle.cuts.specs.Limits.{mostNodes}
 use Rattle.arrays.specs.Lists.{entry}
 use Rattle.tree_places.specs.Places.{Rooted}
 use Rattle.tree_places.specs.Passes.{SizedFrom}
@@ -19,7 +20,7 @@ use Rattle.tree_places.proofs.subtree_sizes.Tie as tie
 
 abbrev Inv-loop : tie.InvT-loop
 Inv-loop nodes order parents sizes₀ i₀ sizes i =
-    (length sizes ≡ 256) × (0 < i) × (i ≤ nodes)
+    (length sizes ≡ mostNodes) × (0 < i) × (i ≤ nodes)
     × ((net : Network) (t : Tree) (uplinks : List ℕ) → Rooted net t order parents uplinks nodes → SizedFrom net t order parents uplinks i sizes)
 
 abbrev μ-loop : tie.MeasureT-loop
@@ -38,14 +39,14 @@ sub-i c = omega arith
 abbrev entered : tie.In-loop Inv-loop μ-loop → tie.Start Inv-loop μ-loop
 entered c = c .before .before .before
 
-order-small : (c : tie.In-loop Inv-loop μ-loop) (k : ℕ) → entry (entered c .args .t1) k < 256
-order-small c k = let f : Fits w8 (entry (entered c .args .t1) k) = search needs in omega arith
+order-small : (c : tie.In-loop Inv-loop μ-loop) (k : ℕ) → entry (entered c .args .t2) k < 256
+order-small c k = let f : Fits w8 (entry (entered c .args .t2) k) = search needs in omega arith
 
-parent-small : (c : tie.In-loop Inv-loop μ-loop) (k : ℕ) → entry (entered c .args .t2) k < 256
-parent-small c k = let f : Fits w8 (entry (entered c .args .t2) k) = search needs in omega arith
+parent-small : (c : tie.In-loop Inv-loop μ-loop) (k : ℕ) → entry (entered c .args .t3) k < 256
+parent-small c k = let f : Fits w8 (entry (entered c .args .t3) k) = search needs in omega arith
 
 abbrev node : tie.In-loop Inv-loop μ-loop → ℕ
-node c = entry (entered c .args .t1) (c .before .loop .i - 1)
+node c = entry (entered c .args .t2) (c .before .loop .i - 1)
 
 array-read-x : tie.Need-array-read-x Inv-loop μ-loop
 array-read-x c = omega arith

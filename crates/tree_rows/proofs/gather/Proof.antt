@@ -6,15 +6,16 @@ use native.Mathlib.Omega.{arith}
 use lib.ListN.{length, set, length-set}
 use lib.Seq.{getD-set-same, getD-set-other}
 use borrow.Author.Count.{below-more}
+use Rattle.cuts.specs.Limits.{mostNodes}
 use Rattle.arrays.specs.Lists.{entry}
 use Rattle.tree_rows.proofs.gather.Statement.{statement}
 use Rattle.tree_rows.proofs.gather.Tie as tie
 
 abbrev Inv-loop : tie.InvT-loop
-Inv-loop out₀ node from p₀ out p = (length out ≡ 256) × (p ≤ 256) × ((q : ℕ) → q < p → entry out q ≡ entry from (entry node q))
+Inv-loop out₀ node from p₀ out p = (length out ≡ mostNodes) × (p ≤ mostNodes) × ((q : ℕ) → q < p → entry out q ≡ entry from (entry node q))
 
 abbrev μ-loop : tie.MeasureT-loop
-μ-loop out₀ node from p₀ out p = 256 - p
+μ-loop out₀ node from p₀ out p = mostNodes - p
 
 loop-holds : tie.Need-loop-holds Inv-loop μ-loop
 loop-holds c = (omega arith, omega arith, λ q l. absurd (omega arith))
@@ -28,8 +29,8 @@ cast-out c = omega (arith, c .shared-slice-known .given (c .before .before .loop
 mul-out : tie.Need-mul-out Inv-loop μ-loop
 mul-out c = omega (arith, c .shared-slice-known .given (c .before .before .loop .p))
 
-shared-slice-read-out-2 : tie.Need-shared-slice-read-out-2 Inv-loop μ-loop
-shared-slice-read-out-2 c = omega (arith, c .before .shared-slice-known .given (c .before .before .before .loop .p))
+element-copy-out-out : tie.Need-element-copy-out-out Inv-loop μ-loop
+element-copy-out-out c = omega (arith, c .shared-slice-known .given (c .before .before .loop .p))
 
 mul-out-2 : tie.Need-mul-out-2 Inv-loop μ-loop
 mul-out-2 c = omega arith
@@ -72,7 +73,7 @@ gather-spec =
     shared-slice-read-out
     cast-out
     mul-out
-    shared-slice-read-out-2
+    element-copy-out-out
     mul-out-2
     slice-write-out
     add-p

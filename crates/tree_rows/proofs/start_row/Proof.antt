@@ -11,8 +11,8 @@ use Rattle.tree_rows.proofs.start_row.Statement.{statement}
 use Rattle.tree_rows.proofs.start_row.Tie as tie
 
 -- where the function begins
-abbrev start : tie.After-shared-slice-known2 → tie.Start
-start c = c .before .before .before
+abbrev start : tie.After-if12 → tie.Start
+start c = c .before .before
 
 add-if1 : tie.Need-add-if1
 add-if1 c = omega arith
@@ -20,11 +20,11 @@ add-if1 c = omega arith
 mul-if1 : tie.Need-mul-if1
 mul-if1 c = omega arith
 
-shared-slice-read-if1 : tie.Need-shared-slice-read-if1
-shared-slice-read-if1 c = omega arith
+element-copy-out-if1 : tie.Need-element-copy-out-if1
+element-copy-out-if1 c = omega arith
 
 cast-if1 : tie.Need-cast-if1
-cast-if1 c = omega (arith, c .shared-slice-known2 .given (start c .args .u))
+cast-if1 c = let s = start c in omega (arith, s .pre .stops-in (s .args .u) (s .pre .place-in))
 
 add-result : tie.Need-add-result
 add-result c = omega arith
@@ -32,11 +32,15 @@ add-result c = omega arith
 mul-result : tie.Need-mul-result
 mul-result c = omega arith
 
-shared-slice-read-result : tie.Need-shared-slice-read-result
-shared-slice-read-result c = let s = start (c .before .before) in let a = s .pre .2 (s .args .u) (s .pre .3) in omega arith
+element-copy-out-result : tie.Need-element-copy-out-result
+element-copy-out-result c = let s = start (c .before) in omega (arith, s .pre .stops-in (s .args .u) (s .pre .place-in))
 
 cast-result : tie.Need-cast-result
-cast-result c = omega (arith, c .shared-slice-known3 .given (start (c .before .before) .args .u + 1))
+cast-result c =
+    let t = c .before in
+    let s = start (t .before) in
+    let a = s .pre .stops-in (s .args .u) (s .pre .place-in) in
+    omega (arith, s .pre .stops-in (s .args .u + 1) (omega arith))
 
 sub-clear : tie.Need-sub-clear
 sub-clear c = search needs
@@ -76,11 +80,11 @@ start-row-spec =
     (tie.spec
     add-if1
     mul-if1
-    shared-slice-read-if1
+    element-copy-out-if1
     cast-if1
     add-result
     mul-result
-    shared-slice-read-result
+    element-copy-out-result
     cast-result
     sub-clear
     part-clear-start

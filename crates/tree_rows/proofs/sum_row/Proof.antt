@@ -4,24 +4,25 @@
 use Prim.Native.Nat.{ℕ, _-_, _≤_, _<_, max}
 use mathlib.Core.Path.{_≡_, subst}
 use native.Mathlib.Omega.{arith}
-use lib.ListN.{length-set}
-use Rattle.tree_rows.specs.Rows.{sumsIn, Summed}
-use Rattle.tree_rows.proofs.PartLaws.{Same, same-self, same-then, same-back, same-sum, done-degrees, done-tallies, done-sums, done-singles}
+use lib.ListN.{length, length-set}
+use Rattle.cuts.specs.Limits.{mostNodes}
+use Rattle.tree_rows.specs.Rows.{figuresLength, sumsIn, Summed}
+use Rattle.tree_rows.proofs.PartLaws.{Same, same-self, same-then, same-back, same-sum, done-degrees, done-tallies, done-sums, done-alone, done-singles}
 use Rattle.tree_rows.proofs.SumLaws.{Summing, summing-start, summing-more, step-in, step-out, summable-same}
 use Rattle.tree_rows.proofs.sum_row.Statement.{statement}
 use Rattle.tree_rows.proofs.sum_row.Tie as tie
 
 abbrev Inv-loop : tie.InvT-loop
-Inv-loop figures₀ stop nodes u sum₀ y₀ figures sum y = Summing stop nodes u figures sum y × (y ≤ max u stop) × Same figures figures₀
+Inv-loop figures₀ nodes stop u sum₀ y₀ figures sum y = Summing stop nodes u figures sum y × (y ≤ max u stop) × Same figures figures₀
 
 abbrev μ-loop : tie.MeasureT-loop
-μ-loop figures₀ stop nodes u sum₀ y₀ figures sum y = stop - y
+μ-loop figures₀ nodes stop u sum₀ y₀ figures sum y = stop - y
 
 abbrev Inv-loop2 : tie.InvT-loop2
-Inv-loop2 figures₀ stop nodes u sum₀ y₀ figures sum y = Summing stop nodes u figures sum y × (stop ≤ y) × (y ≤ max nodes (max u stop)) × Same figures figures₀
+Inv-loop2 figures₀ nodes stop u sum₀ y₀ figures sum y = Summing stop nodes u figures sum y × (stop ≤ y) × (y ≤ max nodes (max u stop)) × Same figures figures₀
 
 abbrev μ-loop2 : tie.MeasureT-loop2
-μ-loop2 figures₀ stop nodes u sum₀ y₀ figures sum y = nodes - y
+μ-loop2 figures₀ nodes stop u sum₀ y₀ figures sum y = nodes - y
 
 -- where the function begins
 abbrev start : tie.At-loop Inv-loop μ-loop Inv-loop2 μ-loop2 → tie.Start Inv-loop μ-loop Inv-loop2 μ-loop2
@@ -155,13 +156,21 @@ returns c =
     let v = c .before .before .loop2 in
     let w = c .before .before .before .before in
     let a = start w .args in
-    let b : a .u < 256 = omega arith in
+    let b : a .u < mostNodes = omega arith in
+    let e : length (v .figures) ≡ figuresLength = v .inv .0 .long in
     let s = same-then (v .inv .3) (same-then (w .loop .inv .2) (same-sum (a .figures .now) (a .u) 0 (omega arith))) in (
-      (done-degrees s (a .u) (a .stop) b, done-tallies s (a .u) (a .stop) b, done-singles s (a .u) (a .stop) b (omega arith)),
-      λ net place l d k i j e.
-          let g = summable-same (same-back s) (record { light = l; weighted = d; tallied = k; above = i; inside = j; sized = e }) in
-          let q : v .y ≡ net .nodes = omega (arith, v .inv .2) in
-          rw (done-sums s (a .u) (a .stop) b) (subst (λ (y : ℕ). Summed net place (a .u) (a .stop) y (sumsIn (v .figures))) q (v .inv .0 .summed net place g)),
+      record {
+        summed = λ net place g.
+            let n = g .sized in
+            let i = g .inside in
+            let q : v .y ≡ net .nodes = omega (arith, v .inv .2, g .above) in
+            rw (done-sums s (a .u) (a .stop) b) (subst (λ (y : ℕ). Summed net place (a .u) (a .stop) y (sumsIn (v .figures))) q (v .inv .0 .summed net place (summable-same (same-back s) g)));
+        alone = done-alone s (a .u) (a .stop) b e (omega arith);
+      },
+      record {
+        beside = record { degrees = done-degrees s (a .u) (a .stop) b; singles = done-singles s (a .u) (a .stop) b };
+        tallies = done-tallies s (a .u) (a .stop) b;
+      },
     )
 
 pub sum-row-spec : {M : Type 1} → statement M

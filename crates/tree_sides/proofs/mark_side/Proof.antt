@@ -1,6 +1,9 @@
 -- `tree_sides::mark_side` meets its contract: a node lies below a member exactly where its place is in the member's run. Assumes nothing.
-use mathlib.Core.Path.{_∙_}
 use native.Mathlib.Omega.{arith}
+use mir.Syntax.{w8}
+use mir.Val.{Fits}
+use Rattle.cuts.specs.Limits.{mostNodes}
+use Rattle.arrays.specs.Lists.{entry, Within}
 use Rattle.tree_sides.proofs.SideLaws.{one-marked, two-marked, members-of}
 use borrow.Author.Needs.{needs}
 use Rattle.tree_sides.proofs.mark_side.Statement.{statement}
@@ -8,10 +11,11 @@ use Rattle.tree_sides.proofs.mark_side.Tie as tie
 
 -- where the function begins, from where the first place is found
 abbrev start : tie.After-place-of → tie.Start
-start c = c .before .before .before .before .before .before
+start c = c .before .before .before .before .before
 
-slice-aggregate-place-of : tie.Need-slice-aggregate-place-of
-slice-aggregate-place-of c = search needs
+-- places are bytes
+places-small : (c : tie.After-place-of) → Within (start c .args .p .place) mostNodes mostNodes
+places-small c i b = let f : Fits w8 (entry (start c .args .p .place) i) = search needs in omega arith
 
 place-of-requires : tie.Need-place-of-requires
 place-of-requires c κs = search needs
@@ -25,14 +29,8 @@ array-read-to c = search needs
 cast-to : tie.Need-cast-to
 cast-to c = search needs
 
-slice-aggregate-mark-runs : tie.Need-slice-aggregate-mark-runs
-slice-aggregate-mark-runs c = search needs
-
 mark-runs-requires : tie.Need-mark-runs-requires
-mark-runs-requires c κs = search needs
-
-slice-aggregate-place-of-2 : tie.Need-slice-aggregate-place-of-2
-slice-aggregate-place-of-2 c = search needs
+mark-runs-requires c κs = record { few-nodes = search needs; places-known = places-small (c .before .before .before) }
 
 place-of-requires-2 : tie.Need-place-of-requires-2
 place-of-requires-2 c κs = search needs
@@ -46,62 +44,46 @@ array-read-end c = search needs
 cast-end : tie.Need-cast-end
 cast-end c = search needs
 
-slice-aggregate-mark-runs-2 : tie.Need-slice-aggregate-mark-runs-2
-slice-aggregate-mark-runs-2 c = search needs
-
 mark-runs-requires-2 : tie.Need-mark-runs-requires-2
-mark-runs-requires-2 c κs = search needs
-
-same-length : tie.Need-same-length
-same-length c = search needs
+mark-runs-requires-2 c κs = record { few-nodes = search needs; places-known = places-small (c .before .before .before .before .before) }
 
 returns : tie.Need-returns
 returns c =
-    let f = c .before .before .before .before .before .before in
+    let i = c .before .before .before in
+    let f = i .before in
     let a = start f .args in
-    let r = c .before .before .mark-runs in
+    let r = c .mark-runs in
     λ net t k n fits.
     let m = members-of (a .first) (a .second) fits in
-    let u = f .place-of .ensures .1 net t (k .links-at) n (m .0) in
-    one-marked k (a .first) (a .second) fits (r .last .0) (r .kept .0 ∙ start f .pre .0) (λ x b d. r .ensures .1 x (omega arith) d)
-    (f .place-of .result) (u .0) (omega (arith, u .1)) (u .2) (c .before .before .before .before .before .if1 .taken) (λ x b. r .ensures .0 x (omega arith))
-
-same-length-2 : tie.Need-same-length-2
-same-length-2 c = search needs
+    let u = f .place-of .ensures .stands net t (k .links-at) n (m .0) in
+    one-marked k n (a .first) (a .second) fits (r .last .0) u (i .if1 .taken) (r .ensures)
 
 returns-2 : tie.Need-returns-2
 returns-2 c =
-    let g = c .before .before .before .before .before in
-    let f = g .before .before .before in
+    let g = c .before .before .before in
+    let i = g .before .before in
+    let f = i .before in
     let a = start f .args in
-    let r = c .before .before .mark-runs2 in
+    let r = c .mark-runs2 in
     λ net t k n fits.
     let m = members-of (a .first) (a .second) fits in
-    let u = f .place-of .ensures .1 net t (k .links-at) n (m .0) in
-    let v = g .place-of2 .ensures .1 net t (k .links-at) n (m .1) in
-    two-marked k (a .first) (a .second) fits (r .last .0) (r .kept .0 ∙ start f .pre .0) (λ x b d. r .ensures .1 x (omega arith) d)
-    (f .place-of .result) (u .0) (omega (arith, u .1)) (u .2) (g .before .before .if1 .left)
-    (g .place-of2 .result) (v .0) (omega (arith, v .1)) (v .2) (λ x b. r .ensures .0 x (omega arith))
+    let u = f .place-of .ensures .stands net t (k .links-at) n (m .0) in
+    let v = g .place-of2 .ensures .stands net t (k .links-at) n (m .1) in
+    two-marked k n (a .first) (a .second) fits (r .last .0) u (i .if1 .left) v (r .ensures)
 
 pub mark-side-spec : {M : Type 1} → statement M
 mark-side-spec =
     tie.close
     (tie.spec
-    slice-aggregate-place-of
     place-of-requires
     mul-to
     array-read-to
     cast-to
-    slice-aggregate-mark-runs
     mark-runs-requires
-    slice-aggregate-place-of-2
     place-of-requires-2
     mul-end
     array-read-end
     cast-end
-    slice-aggregate-mark-runs-2
     mark-runs-requires-2
-    same-length
     returns
-    same-length-2
     returns-2)

@@ -4,14 +4,14 @@ use Rattle.write_areas.proofs.SideLaws.{byteOf-marks}
 use Rattle.write_areas.proofs.packed.Statement.{statement}
 use Rattle.write_areas.proofs.packed.Tie as tie
 
-shared-slice-read-result : tie.Need-shared-slice-read-result
-shared-slice-read-result c = omega arith
+element-copy-out-result : tie.Need-element-copy-out-result
+element-copy-out-result c = omega arith
 
 add-result : tie.Need-add-result
 add-result c = omega arith
 
-shared-slice-read-result-2 : tie.Need-shared-slice-read-result-2
-shared-slice-read-result-2 c = omega arith
+element-copy-out-result-2 : tie.Need-element-copy-out-result-2
+element-copy-out-result-2 c = omega arith
 
 mul-result : tie.Need-mul-result
 mul-result c = omega arith
@@ -22,8 +22,8 @@ add-result-2 c = omega arith
 add-result-3 : tie.Need-add-result-3
 add-result-3 c = omega arith
 
-shared-slice-read-result-3 : tie.Need-shared-slice-read-result-3
-shared-slice-read-result-3 c = omega arith
+element-copy-out-result-3 : tie.Need-element-copy-out-result-3
+element-copy-out-result-3 c = omega arith
 
 mul-result-2 : tie.Need-mul-result-2
 mul-result-2 c = omega arith
@@ -34,8 +34,8 @@ add-result-4 c = omega arith
 add-result-5 : tie.Need-add-result-5
 add-result-5 c = omega arith
 
-shared-slice-read-result-4 : tie.Need-shared-slice-read-result-4
-shared-slice-read-result-4 c = omega arith
+element-copy-out-result-4 : tie.Need-element-copy-out-result-4
+element-copy-out-result-4 c = omega arith
 
 mul-result-3 : tie.Need-mul-result-3
 mul-result-3 c = omega arith
@@ -46,8 +46,8 @@ add-result-6 c = omega arith
 add-result-7 : tie.Need-add-result-7
 add-result-7 c = omega arith
 
-shared-slice-read-result-5 : tie.Need-shared-slice-read-result-5
-shared-slice-read-result-5 c = omega arith
+element-copy-out-result-5 : tie.Need-element-copy-out-result-5
+element-copy-out-result-5 c = omega arith
 
 mul-result-4 : tie.Need-mul-result-4
 mul-result-4 c = omega arith
@@ -58,8 +58,8 @@ add-result-8 c = omega arith
 add-result-9 : tie.Need-add-result-9
 add-result-9 c = omega arith
 
-shared-slice-read-result-6 : tie.Need-shared-slice-read-result-6
-shared-slice-read-result-6 c = omega arith
+element-copy-out-result-6 : tie.Need-element-copy-out-result-6
+element-copy-out-result-6 c = omega arith
 
 mul-result-5 : tie.Need-mul-result-5
 mul-result-5 c = omega arith
@@ -70,8 +70,8 @@ add-result-10 c = omega arith
 add-result-11 : tie.Need-add-result-11
 add-result-11 c = omega arith
 
-shared-slice-read-result-7 : tie.Need-shared-slice-read-result-7
-shared-slice-read-result-7 c = omega arith
+element-copy-out-result-7 : tie.Need-element-copy-out-result-7
+element-copy-out-result-7 c = omega arith
 
 mul-result-6 : tie.Need-mul-result-6
 mul-result-6 c = omega arith
@@ -82,8 +82,8 @@ add-result-12 c = omega arith
 add-result-13 : tie.Need-add-result-13
 add-result-13 c = omega arith
 
-shared-slice-read-result-8 : tie.Need-shared-slice-read-result-8
-shared-slice-read-result-8 c = omega arith
+element-copy-out-result-8 : tie.Need-element-copy-out-result-8
+element-copy-out-result-8 c = omega arith
 
 mul-result-7 : tie.Need-mul-result-7
 mul-result-7 c = omega arith
@@ -98,33 +98,33 @@ pub packed-spec : {M : Type 1} → statement M
 packed-spec =
     tie.close
     (tie.spec
-    shared-slice-read-result
+    element-copy-out-result
     add-result
-    shared-slice-read-result-2
+    element-copy-out-result-2
     mul-result
     add-result-2
     add-result-3
-    shared-slice-read-result-3
+    element-copy-out-result-3
     mul-result-2
     add-result-4
     add-result-5
-    shared-slice-read-result-4
+    element-copy-out-result-4
     mul-result-3
     add-result-6
     add-result-7
-    shared-slice-read-result-5
+    element-copy-out-result-5
     mul-result-4
     add-result-8
     add-result-9
-    shared-slice-read-result-6
+    element-copy-out-result-6
     mul-result-5
     add-result-10
     add-result-11
-    shared-slice-read-result-7
+    element-copy-out-result-7
     mul-result-6
     add-result-12
     add-result-13
-    shared-slice-read-result-8
+    element-copy-out-result-8
     mul-result-7
     add-result-14
     returns)

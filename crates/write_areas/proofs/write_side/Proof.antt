@@ -35,7 +35,7 @@ mul-packed : tie.Need-mul-packed Inv-loop μ-loop
 mul-packed c = omega arith
 
 packed-requires : tie.Need-packed-requires Inv-loop μ-loop
-packed-requires c κs = (c .before .before .before .before .pre .0, omega arith)
+packed-requires c κs = omega arith
 
 slice-write-area : tie.Need-slice-write-area Inv-loop μ-loop
 slice-write-area c = omega arith
@@ -48,7 +48,7 @@ loop-less c = omega arith
 
 loop-again : tie.Need-loop-again Inv-loop μ-loop
 loop-again c =
-    let a = c .before .before .before .before .before .args in
+    let a = c .before .before .before .before .args in
     let l = c .before .before .loop in (
       omega arith,
       simp length-set (l .inv .1),

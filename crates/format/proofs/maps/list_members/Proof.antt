@@ -58,14 +58,14 @@ module _ {map : Bytes} {links room : ℕ} {members : List ℕ} {found k : ℕ} (
   }
 
 abbrev Inv-loop : tie.InvT-loop
-Inv-loop map links members₀ found₀ k₀ members found k = Listing map links (length members₀) members found k
+Inv-loop members₀ map links found₀ k₀ members found k = Listing map links (length members₀) members found k
 
 abbrev μ-loop : tie.MeasureT-loop
-μ-loop map links members₀ found₀ k₀ members found k = links - k
+μ-loop members₀ map links found₀ k₀ members found k = links - k
 
 loop-holds : tie.Need-loop-holds Inv-loop μ-loop
 unfolding sumTo select
-loop-holds c = record { counted = refl; listed = refl; sized = refl; free = omega (arith, c .before .before .pre .1); few = omega arith; within = omega arith; held = omega arith; most = omega arith; fits = c .before .before .pre .1 }
+loop-holds c = record { counted = refl; listed = refl; sized = refl; free = omega (arith, c .before .before .pre .room); few = omega arith; within = omega arith; held = omega arith; most = omega arith; fits = c .before .before .pre .room }
 
 cast-members : tie.Need-cast-members Inv-loop μ-loop
 cast-members c = omega arith
@@ -105,7 +105,10 @@ returns c =
     let l = c .before .loop in
     let e : l .k ≡ c .before .before .before .before .args .links = omega (arith, l .inv .within) in
     let map = c .before .before .before .before .args .map .now in
-    (l .inv .counted ∙ ap (λ (n : ℕ). countTo n (mapBit map)) e, l .inv .listed ∙ ap (λ (n : ℕ). select n (mapBit map)) e)
+    record {
+      counted = l .inv .counted ∙ ap (λ (n : ℕ). countTo n (mapBit map)) e;
+      listed = l .inv .listed ∙ ap (λ (n : ℕ). select n (mapBit map)) e;
+    }
 
 pub list-members-spec : {M : Type 1} → statement M
 list-members-spec =

@@ -26,7 +26,7 @@ cast-result c = search needs
 returns : tie.Need-returns
 returns c =
     let a = c .before .before .before .args in
-    rw (number-halves 2 2 (a .at) (a .s .now), c .before .two .ensures .0, c .two2 .ensures .0)
+    rw (number-halves 2 2 (a .at) (a .s .now), c .before .two .ensures .same, c .two2 .ensures .same)
 
 pub four-spec : {M : Type 1} → statement M
 four-spec = tie.close (tie.spec two-requires add-two two-requires-2 mul-result add-result cast-result returns)

@@ -30,7 +30,7 @@ add-result c = search needs
 returns : tie.Need-returns
 returns c =
     let a = c .before .before .before .before .before .args in
-    (rw (number-two (a .at) (a .s .now), c .before .before .wide .ensures .0, c .wide2 .ensures .0), omega arith)
+    record { same = rw (number-two (a .at) (a .s .now), c .before .before .wide .ensures .same, c .wide2 .ensures .same); small = omega arith }
 
 pub two-spec : {M : Type 1} → statement M
 two-spec =

@@ -13,18 +13,18 @@ use Rattle.read_links.proofs.trunks.trunk_numbers.Statement.{statement}
 use Rattle.read_links.proofs.trunks.trunk_numbers.Tie as tie
 
 abbrev Inv-loop : tie.InvT-loop
-Inv-loop s from count numbers₀ at₀ trunk₀ k₀ numbers at trunk k = TrunksRun current s from count numbers₀ numbers at trunk k
+Inv-loop numbers₀ s from count at₀ trunk₀ k₀ numbers at trunk k = TrunksRun current s from count numbers₀ numbers at trunk k
 
 abbrev μ-loop : tie.MeasureT-loop
-μ-loop s from count numbers₀ at₀ trunk₀ k₀ numbers at trunk k = count - k
+μ-loop numbers₀ s from count at₀ trunk₀ k₀ numbers at trunk k = count - k
 
 loop-holds : tie.Need-loop-holds Inv-loop μ-loop
-loop-holds c = let a = c .before .before in trunks-start current (a .args .s .now) (a .args .from) (a .args .count) (a .args .numbers .now) (a .pre .1) (a .pre .2)
+loop-holds c = let a = c .before .before in trunks-start current (a .args .s .now) (a .args .from) (a .args .count) (a .args .numbers .now) (a .pre .there) (a .pre .room)
 
 -- the next record lies in the sheet
 module _ (c : tie.In-loop Inv-loop μ-loop) where
   sheet-bytes : ByteSized (c .before .before .before .before .args .s .now)
-  sheet-bytes k _ = omega (arith, c .before .before .before .shared-slice-known .given k)
+  sheet-bytes k _ = omega (arith, c .before .before .shared-slice-known .given k)
 
   there : let a = c .before .before .before .before .args in let l = c .before .loop in l .at + recordLength current (drop (l .at) (a .s .now)) ≤ length (a .s .now)
   there = next-there (c .before .loop .inv) (c .loop-test .taken)
@@ -37,7 +37,7 @@ module _ (c : tie.After-trunk-start Inv-loop μ-loop) where
       let l = c .before .before .before .loop in
       let s = c .before .before .before .before .before .before .args .s .now in
       let m = getD s (l .at) 0 in
-      omega (arith, recordLength-at current (l .at) s, fieldStart-end current-fields m, fieldStart-trunk current-fields m, c .trunk-start .ensures .0)
+      omega (arith, recordLength-at current (l .at) s, fieldStart-end current-fields m, fieldStart-trunk current-fields m, c .trunk-start .ensures)
 
 shared-slice-read-m : tie.Need-shared-slice-read-m Inv-loop μ-loop
 shared-slice-read-m c = omega (arith, there (c .before))
@@ -63,7 +63,7 @@ read : (c : tie.After-two-or Inv-loop μ-loop) → let l = c .before .before .be
 read c =
     let l = c .before .before .before .before .loop in
     let s = c .before .before .before .before .before .before .before .args .s .now in
-    let place = ap (λ (i : ℕ). l .at + 1 + i) (c .before .trunk-start .ensures .0) in
+    let place = ap (λ (i : ℕ). l .at + 1 + i) (c .before .trunk-start .ensures) in
     rw place at (c .two-or .ensures) ∙ trunk-at (l .at) (getD s (l .at) 0) s refl current-fields (l .trunk)
 
 cast-numbers : tie.Need-cast-numbers Inv-loop μ-loop

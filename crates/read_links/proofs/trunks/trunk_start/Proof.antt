@@ -1,6 +1,5 @@
 -- `read_links::trunks::trunk_start` meets its contract: the fields in front of the trunk number are both ends and the weight. Assumes nothing.
 use mathlib.Core.Path.{sym}
-use native.Mathlib.Omega.{arith}
 use borrow.Author.Needs.{needs}
 use Rattle.read_links.proofs.RecordLaws.{current-fields, fieldStart-trunk}
 use Rattle.read_links.proofs.trunks.trunk_start.Statement.{statement}
@@ -22,7 +21,7 @@ add-result-2 : tie.Need-add-result-2
 add-result-2 c = search needs
 
 returns : tie.Need-returns
-returns c = (sym (fieldStart-trunk current-fields (c .args .m)), omega arith)
+returns c = sym (fieldStart-trunk current-fields (c .args .m))
 
 pub trunk-start-spec : {M : Type 1} → statement M
 trunk-start-spec = tie.close (tie.spec mul-result mul-result-2 add-result mul-result-3 add-result-2 returns)

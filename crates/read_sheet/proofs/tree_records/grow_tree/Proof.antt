@@ -4,6 +4,7 @@ use mathlib.Core.Path.{_≡_, _∙_}
 use native.Mathlib.Omega.{arith}
 use borrow.Author.Needs.{needs}
 use lib.ListN.{length}
+use Rattle.cuts.specs.Limits.{mostNodes}
 use Rattle.read_sheet.proofs.TreeLaws.{listed-within, memberLinks-map}
 use Rattle.read_sheet.proofs.tree_records.grow_tree.Statement.{statement}
 use Rattle.read_sheet.proofs.tree_records.grow_tree.Tie as tie
@@ -24,24 +25,31 @@ index-1-grow c = search needs
 index-1-grow-2 : tie.Need-index-1-grow-2
 index-1-grow-2 c = search needs
 
-slice-aggregate-grow : tie.Need-slice-aggregate-grow
-slice-aggregate-grow c = search needs
-
 grow-requires : tie.Need-grow-requires
 grow-requires c κs =
     let m = c .before .before .before .before .before .before in
     let l = m .list-members in
     let p = start m .pre in
-    let n : length (l .last .1 .1 .0) ≡ 256 = l .kept .1 .1 .0 in
-    let few : l .result ≤ 256 = omega (arith, l .ensures .0, p .0 .1, p .0 .3) in
-    ((p .0 .2, p .0 .3, omega (arith, few, n), few), λ i b. p .1 _ (listed-within (l .last .1 .1 .0) (l .result) (start m .args .links) _ (l .ensures .1) (omega (arith, few, n)) i b))
+    let k = p .links-known in
+    let n : length (l .last .0) ≡ mostNodes = l .kept .0 in
+    let few : l .result ≤ mostNodes = omega (arith, l .ensures .counted, p .counted, k .few-nodes) in
+    let there : l .result ≤ length (l .last .0) = omega (arith, few, n) in
+    record {
+      some = k .some;
+      few = few;
+      chosen = record {
+        few-nodes = k .few-nodes;
+        there = there;
+        known = λ i b. k .known _ (listed-within (l .last .0) (l .result) (start m .args .links) _ (l .ensures .listed) there i b);
+      };
+    }
 
 returns : tie.Need-returns
 returns c =
     let m = c .before .before .before .before .before .before .before in
     let l = m .list-members in
     let a = start m .args in
-    λ net t h n e. c .grow .ensures net t (record { held = h; members = l .ensures .1 ∙ memberLinks-map net t (a .map .now) (a .links) n e })
+    λ net t h n e. c .grow .ensures net t (record { held = h; members = l .ensures .listed ∙ memberLinks-map net t (a .map .now) (a .links) n e })
 
 pub grow-tree-spec : {M : Type 1} → statement M
 grow-tree-spec =
@@ -51,6 +59,5 @@ grow-tree-spec =
     list-members-requires
     index-1-grow
     index-1-grow-2
-    slice-aggregate-grow
     grow-requires
     returns)

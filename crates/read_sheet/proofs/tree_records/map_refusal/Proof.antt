@@ -12,7 +12,7 @@ stray-bit-requires c κs = search needs
 returns : tie.Need-returns
 returns c =
     let b = c .before .before .before in
-    sym (map-stray (b .args .map .now) (b .args .nodes) (b .args .links) (b .pre .0) (sym (c .before .stray-bit .ensures) ∙ c .if1 .taken))
+    sym (map-stray (b .args .map .now) (b .args .nodes) (b .args .links) (b .pre .sized) (sym (c .before .stray-bit .ensures) ∙ c .if1 .taken))
 
 ones-requires : tie.Need-ones-requires
 ones-requires c κs = search needs
@@ -24,13 +24,13 @@ returns-2 : tie.Need-returns-2
 returns-2 c =
     let b = c .before .before .before .before .before in
     let clean = sym (c .before .before .before .stray-bit .ensures) ∙ c .before .before .if1 .left in
-    sym (map-miscounted (b .args .map .now) (b .args .nodes) (b .args .links) (b .pre .0) clean (λ e. c .if2 .taken (c .before .ones .ensures ∙ e)))
+    sym (map-miscounted (b .args .map .now) (b .args .nodes) (b .args .links) (b .pre .sized) clean (λ e. c .if2 .taken (c .before .ones .ensures ∙ e)))
 
 returns-3 : tie.Need-returns-3
 returns-3 c =
     let b = c .before .before .before .before .before in
     let clean = sym (c .before .before .before .stray-bit .ensures) ∙ c .before .before .if1 .left in
-    sym (map-passed (b .args .map .now) (b .args .nodes) (b .args .links) (b .pre .0) clean (sym (c .before .ones .ensures) ∙ c .if2 .left))
+    sym (map-passed (b .args .map .now) (b .args .nodes) (b .args .links) (b .pre .sized) clean (sym (c .before .ones .ensures) ∙ c .if2 .left))
 
 pub map-refusal-spec : {M : Type 1} → statement M
 map-refusal-spec =

@@ -9,8 +9,8 @@ use Rattle.tree_sides.proofs.counts.single_count.Tie as tie
 mul-wrapping-sub-u16 : tie.Need-mul-wrapping-sub-u16
 mul-wrapping-sub-u16 c = search needs
 
-shared-slice-read-wrapping-sub-u16 : tie.Need-shared-slice-read-wrapping-sub-u16
-shared-slice-read-wrapping-sub-u16 c = search needs
+element-copy-out-wrapping-sub-u16 : tie.Need-element-copy-out-wrapping-sub-u16
+element-copy-out-wrapping-sub-u16 c = search needs
 
 cast-wrapping-sub-u16 : tie.Need-cast-wrapping-sub-u16
 cast-wrapping-sub-u16 c = search needs
@@ -20,9 +20,9 @@ wrapping-sub-u16-requires c κs = search needs
 
 returns : tie.Need-returns
 returns c net t place node links k z b =
-    let s = c .before .before .before in
+    let s = c .before .before in
     let u = s .args .u in
-    let small = s .pre .1 u (s .pre .2) in
+    let small = s .pre .stops-known u (s .pre .place) in
     let count = single-count k u z b in
     omega (arith, c .wrapping-sub-u16 .ensures)
 
@@ -31,7 +31,7 @@ single-count-spec =
     tie.close
     (tie.spec
     mul-wrapping-sub-u16
-    shared-slice-read-wrapping-sub-u16
+    element-copy-out-wrapping-sub-u16
     cast-wrapping-sub-u16
     wrapping-sub-u16-requires
     returns)
