@@ -164,7 +164,6 @@ fn the_command_has_the_tables_words_for_each_number() {
     }
 }
 
-
 #[test]
 fn the_command_has_the_tables_words_for_a_refused_text() {
     let mut messages = vec![];
