@@ -3,15 +3,16 @@
 --   networkAt s es ws c p   the network that the arrays, of ends and of weights, and the tree records from position p of s on hold, with
 --                           the counts c
 --   recordAt c p i          where the record of tree i stands, that of tree 0 standing at p
+--   mapAt s p m             the link map, for m links, of the tree record that stands at p of s
 --   SheetHeld f s es ws c p the records of all trees stand in s from p on, and the network that they and the arrays hold is one that a
 --                           sheet of the format f gives
 use Prim.Native.Nat.{ℕ, _+_, _*_, _≤_}
 use mathlib.Core.List.{List, []}
-use lib.ListN.{length, drop}
+use lib.ListN.{length, take, drop}
 use Rattle.cuts.specs.Sums.{table}
 use Rattle.cuts.specs.Network.{Link, Tree, Network, linkCount}
 use Rattle.sheet.specs.Bytes.{Bytes}
-use Rattle.sheet.specs.Sheet.{Format, Counts, treeLength, treeIn, network, Accepted}
+use Rattle.sheet.specs.Sheet.{Format, Counts, mapLength, treeLength, treeIn, network, Accepted}
 use Rattle.arrays.specs.Lists.{part}
 use Rattle.arrays.specs.Links.{LinkArrays, linksOf}
 
@@ -26,6 +27,9 @@ networkAt s ends ws c p =
 
 abbrev pub recordAt : Counts → ℕ → ℕ → ℕ
 recordAt c p i = p + i * treeLength (c .links)
+
+abbrev pub mapAt : Bytes → ℕ → ℕ → Bytes
+mapAt s p links = take (mapLength links) (drop (p + 4) s)
 
 pub record SheetHeld (f : Format) (s : Bytes) (ends : List (List ℕ)) (ws : List ℕ) (c : Counts) (p : ℕ) : Type 0 where
   pub inside : recordAt c p (c .trees) ≤ length s

@@ -11,7 +11,8 @@ ghost use Rattle.monitor.specs.Entry.{Reported};
 // number of the first refusal and leaves both areas as they were.
 #[no_mangle]
 pub extern "C" fn wcut_report(sheet: &[u8], side: &mut [u8], report: &mut [u8]) -> u32
-    ensures { λ r. ⌜ Reported current (now (sheet .entry)) (now (side .entry)) (now (report .entry)) (now (side .exit)) (now (report .exit)) r ⌝ }
+    ensures { λ r. ⌜ Reported current (now (sheet .entry))
+        (now (side .entry)) (now (report .entry)) (now (side .exit)) (now (report .exit)) r ⌝ }
 {
     if side.len() < SIDE_LENGTH {
         return refusals::SHORT_SIDE;

@@ -29,7 +29,8 @@ fn second_link(first: u16, second: u16) -> u16
 // Writes both areas: the side of the cut found, from its marks, and the report.
 fn write_areas(side: &mut [u8], report: &mut [u8], cut: &[u8; MOST_NODES], a: Answer)
     requires { ⌜ Room (now side) (now report) ⌝ }
-    ensures { λ _. ⌜ AreasWritten a (now (cut .entry)) (now (side .entry)) (now (report .entry)) (now (side .exit)) (now (report .exit)) ⌝ }
+    ensures { λ _. ⌜ AreasWritten a (now (cut .entry))
+        (now (side .entry)) (now (report .entry)) (now (side .exit)) (now (report .exit)) ⌝ }
 {
     write_side(side, cut);
     let found = a.found;
@@ -56,7 +57,8 @@ fn write_answer(
     weights: &[u32; MOST_LINKS],
 )
     requires { ⌜ Writable (now side) (now report) (now s) (now ends) (now weights) (countsOf c) at ⌝ }
-    ensures { λ _. ⌜ AnswerWritten (networkAt (now (s .entry)) (now (ends .entry)) (now (weights .entry)) (countsOf c) at)
+    ensures { λ _. ⌜ AnswerWritten
+        (networkAt (now (s .entry)) (now (ends .entry)) (now (weights .entry)) (countsOf c) at)
         (now (side .entry)) (now (report .entry)) (now (side .exit)) (now (report .exit)) ⌝ }
 {
     let a = answer_sheet(s, at, c, ends, weights);

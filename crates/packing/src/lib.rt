@@ -3,8 +3,8 @@ use format::limits::MOST_LINKS;
 use format::maps::bit_set;
 use format::numbers::four;
 use read_header::Counts;
-use read_sheet::tree_records::SHARE_LENGTH;
-use read_sheet::tree_records::map_length;
+use read_sheet::tree_records::tree_length;
+use read_sheet::tree_records::tree_map;
 ghost use mathlib.Core.Path.{_≡_};
 ghost use Prim.Native.Nat.{_*_, _≤_, min};
 ghost use lib.ListN.{drop};
@@ -78,21 +78,20 @@ fn count_trees(
 {
     let links = c.links;
     let trees = c.trees;
-    let size = map_length(links);
+    let size = tree_length(links);
     let mut sum: u64 = 0;
     let mut place = at;
     let mut stop = trees;
     let mut i = 0;
     while i < stop {
         let share = four(s, place);
-        let map_at = place + SHARE_LENGTH;
-        let end = map_at + size;
-        if count_tree(loads, &s[map_at..end], links, weights, share) {
+        let map = tree_map(s, place, links);
+        if count_tree(loads, map, links, weights, share) {
             sum += share as u64;
         } else {
             stop = i;
         }
-        place = end;
+        place += size;
         i += 1;
     }
     sum

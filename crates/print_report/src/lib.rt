@@ -47,7 +47,8 @@ fn read_report(area: &[u8; REPORT_LENGTH]) -> Report
 // Writes the fields that say how light the cut is.
 fn put_bounds(out: &mut [u8], at: usize, verdict: u8, weight: u64, floor: u64) -> usize
     requires { ⌜ at + 46 ≤ length (now out) ⌝ }
-    ensures { λ r. ⌜ PutIn 46 (now (out .entry)) at (fieldsText (decimal verdict ∷ decimal weight ∷ decimal floor ∷ [])) (now (out .exit)) r ⌝ }
+    ensures { λ r. ⌜ PutIn 46 (now (out .entry)) at
+        (fieldsText (decimal verdict ∷ decimal weight ∷ decimal floor ∷ [])) (now (out .exit)) r ⌝ }
 {
     let mut end = put_field(out, at, verdict as u64);
     end = put_field(out, end, weight);
@@ -57,7 +58,8 @@ fn put_bounds(out: &mut [u8], at: usize, verdict: u8, weight: u64, floor: u64) -
 // Writes the field of the second link.
 fn put_second(out: &mut [u8], at: usize, second: u16) -> usize
     requires { ⌜ at + 6 ≤ length (now out) ⌝ }
-    ensures { λ r. ⌜ ((e : ℕ) → PutIn 6 (now (out .entry)) at (space ∷ secondField (handleOf e second)) (now (out .exit)) r) ⌝ }
+    ensures { λ r. ⌜ ((e : ℕ)
+        → PutIn 6 (now (out .entry)) at (space ∷ secondField (handleOf e second)) (now (out .exit)) r) ⌝ }
 {
     if second == NO_SECOND {
         return put_word(out, at, b" -");
@@ -69,7 +71,8 @@ fn put_second(out: &mut [u8], at: usize, second: u16) -> usize
 fn put_cut(out: &mut [u8], at: usize, tree: u8, first: u16, second: u16, count: u16) -> usize
     requires { ⌜ at + 22 ≤ length (now out) ⌝ }
     ensures { λ r. ⌜ PutIn 22 (now (out .entry)) at
-        (fieldsText (decimal tree ∷ decimal first ∷ secondField (handleOf first second) ∷ decimal count ∷ [])) (now (out .exit)) r ⌝ }
+        (fieldsText (decimal tree ∷ decimal first ∷ secondField (handleOf first second) ∷ decimal count ∷ []))
+        (now (out .exit)) r ⌝ }
 {
     let mut end = put_field(out, at, tree as u64);
     end = put_field(out, end, first as u64);
@@ -80,7 +83,8 @@ fn put_cut(out: &mut [u8], at: usize, tree: u8, first: u16, second: u16, count: 
 // Writes the line of a report.
 fn answer_line(out: &mut [u8], r: Report) -> usize
     requires { ⌜ 75 ≤ length (now out) ⌝ }
-    ensures { λ end. ⌜ PutIn 75 (now (out .entry)) 0 (line answerWord (answerFields (answerOf (fieldsOf r) []))) (now (out .exit)) end ⌝ }
+    ensures { λ end. ⌜ PutIn 75 (now (out .entry)) 0
+        (line answerWord (answerFields (answerOf (fieldsOf r) []))) (now (out .exit)) end ⌝ }
 {
     let mut end = put_word(out, 0, b"answer");
     end = put_bounds(out, end, r.verdict, r.weight, r.floor);
@@ -129,7 +133,8 @@ fn answer_lines(out: &mut [u8], side: &[u8; SIDE_LENGTH], report: &[u8; REPORT_L
 // Writes what the report program prints for a sheet to the front of the buffer, and answers how many bytes that is.
 fn put_output(out: &mut [u8], sheet: &[u8]) -> usize
     requires { ⌜ mostOutput ≤ length (now out) ⌝ }
-    ensures { λ r. ⌜ PutIn mostOutput (now (out .entry)) 0 (output current (decode current (now (sheet .entry)))) (now (out .exit)) r ⌝ }
+    ensures { λ r. ⌜ PutIn mostOutput (now (out .entry)) 0
+        (output current (decode current (now (sheet .entry)))) (now (out .exit)) r ⌝ }
 {
     let mut side = [0u8; SIDE_LENGTH];
     let mut report = [0u8; REPORT_LENGTH];

@@ -34,7 +34,8 @@ fn link_line(out: &mut [u8], at: usize, link: usize, trunk: u16) -> usize
 // Writes the lines of the first `count` links.
 fn link_lines(out: &mut [u8], numbers: &[u16], count: usize) -> usize
     requires { ⌜ LinesRoom (now out) (now numbers) count ⌝ }
-    ensures { λ r. ⌜ PutIn mostOutput (now (out .entry)) 0 (linesFrom 0 (take count (now (numbers .entry)))) (now (out .exit)) r ⌝ }
+    ensures { λ r. ⌜ PutIn mostOutput (now (out .entry)) 0
+        (linesFrom 0 (take count (now (numbers .entry)))) (now (out .exit)) r ⌝ }
 {
     let mut end = 0;
     let mut k = 0;
@@ -48,7 +49,8 @@ fn link_lines(out: &mut [u8], numbers: &[u16], count: usize) -> usize
 // Writes what the program prints for a sheet to the front of the buffer, and answers how many bytes that is.
 fn put_output(out: &mut [u8], sheet: &[u8]) -> usize
     requires { ⌜ mostOutput ≤ length (now out) ⌝ }
-    ensures { λ r. ⌜ PutIn mostOutput (now (out .entry)) 0 (output (trunks current (now (sheet .entry)))) (now (out .exit)) r ⌝ }
+    ensures { λ r. ⌜ PutIn mostOutput (now (out .entry)) 0
+        (output (trunks current (now (sheet .entry)))) (now (out .exit)) r ⌝ }
 {
     let mut numbers = [0u16; MOST_LINKS];
     let number = read_trunks(&mut numbers, sheet);

@@ -22,7 +22,7 @@ use Rattle.arrays.specs.Lists.{Within}
 use Rattle.sheet.specs.Bytes.{Bytes, mapBit}
 use Rattle.sheet.specs.Reading.{check, firstFailing, accepted, refused, unless, records}
 use Rattle.sheet.specs.Sheet.{mapLength, treeLength, treeIn, mapChecks, treeChecks, treeRecord}
-use Rattle.arrays.specs.Records.{treesFrom}
+use Rattle.arrays.specs.Records.{treesFrom, mapAt}
 use Rattle.sheet.proofs.Acceptance.{ones-below}
 use Rattle.sheet.proofs.ReadingLaws.{lacks, passed, unless-append, unless-refused, Run, run-start, run-more, run-done}
 
@@ -145,30 +145,22 @@ module _ (net : Network) (s map : Bytes) (at : ℕ) (slice : map ≡ take (mapLe
         ap (λ (i : ℕ). accepted (treeIn net (drop at s)) (drop i s)) e
         ∙ sym (tree-read net (drop at s) whole-at (ap firstFailing checks-at ∙ passes) (sym h) ∙ ap (accepted (treeIn net (drop at s))) (drop-drop (treeLength (linkCount net)) at s))
 
--- ---- the map of the record at a position, as code slices it
+-- ---- the map of the record at a position
 
-abbrev pub mapAt : Bytes → ℕ → ℕ → Bytes
-mapAt s at size = take (at + 4 + size - (at + 4)) (drop (at + 4) s)
-
-module _ (s : Bytes) (at links size : ℕ) (sized : size ≡ mapLength links) where
-  pub mapAt-is : mapAt s at size ≡ take (mapLength links) (drop (at + 4) s)
-  mapAt-is = let e : at + 4 + size - (at + 4) ≡ mapLength links = omega arith in rw e
-
-  pub mapAt-counted : countTo links (mapBit (mapAt s at size)) ≡ countTo links (mapBit (drop (at + 4) s))
-  mapAt-counted =
-      rw mapAt-is
-      (sum-congr links _ _ (λ k b. ap (λ (c : Bool). only c 1) (mapBit-take (mapLength links) (drop (at + 4) s) k (omega arith))))
+module _ (s : Bytes) (at links : ℕ) where
+  pub mapAt-counted : countTo links (mapBit (mapAt s at links)) ≡ countTo links (mapBit (drop (at + 4) s))
+  mapAt-counted = sum-congr links _ _ (λ k b. ap (λ (c : Bool). only c 1) (mapBit-take (mapLength links) (drop (at + 4) s) k (omega arith)))
 
   module _ (net : Network) (n : linkCount net ≡ links) where
-    pub mapAt-slice : mapAt s at size ≡ take (mapLength (linkCount net)) (drop (at + 4) s)
-    mapAt-slice = mapAt-is ∙ ap (λ (i : ℕ). take (mapLength i) (drop (at + 4) s)) (sym n)
+    pub mapAt-slice : mapAt s at links ≡ mapAt s at (linkCount net)
+    mapAt-slice = ap (mapAt s at) (sym n)
 
-    pub mapAt-members : at + treeLength links ≤ length s → treeIn net (drop at s) .members ≡ table links (mapBit (mapAt s at size))
+    pub mapAt-members : at + treeLength links ≤ length s → treeIn net (drop at s) .members ≡ table links (mapBit (mapAt s at links))
     mapAt-members whole =
-        members-at net s (mapAt s at size) at mapAt-slice (rw n whole) ∙ ap (λ (i : ℕ). table i (mapBit (mapAt s at size))) n
+        members-at net s (mapAt s at links) at mapAt-slice (rw n whole) ∙ ap (λ (i : ℕ). table i (mapBit (mapAt s at links))) n
 
-  pub mapAt-length : at + treeLength links ≤ length s → length (mapAt s at size) ≡ mapLength links
-  mapAt-length whole = rw mapAt-is (length-take-le (mapLength links) (drop (at + 4) s) (rw (length-drop (at + 4) s) (omega arith)))
+  pub mapAt-length : at + treeLength links ≤ length s → length (mapAt s at links) ≡ mapLength links
+  mapAt-length whole = length-take-le (mapLength links) (drop (at + 4) s) (rw (length-drop (at + 4) s) (omega arith))
 
 -- ---- one record after another
 

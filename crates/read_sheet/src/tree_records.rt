@@ -15,16 +15,17 @@ ghost use Rattle.cuts.specs.Sums.{table};
 ghost use Rattle.cuts.specs.Network.{Network, Tree, linkCount};
 ghost use Rattle.arrays.specs.Links.{firstEnds, secondEnds, Held};
 ghost use Rattle.arrays.specs.Grown.{GrownTree};
+ghost use Rattle.arrays.specs.Records.{mapAt};
 ghost use Rattle.sheet.specs.Bytes.{mapBit};
 ghost use Rattle.sheet.specs.Reading.{firstFailing};
 ghost use Rattle.sheet.specs.Sheet.{mapLength, treeLength, mapChecks};
-ghost use Rattle.read_sheet.specs.TreesRead.{RecordPlaced, MapSized, MapCounted, TreesAhead, TreeRead, TreesRead};
+ghost use Rattle.read_sheet.specs.TreesRead.{RecordPlaced, RecordWhole, MapSized, MapCounted, TreesAhead, TreeRead, TreesRead};
 
 // The bytes of a tree's share, in front of its map.
-pub const SHARE_LENGTH: usize = 4;
+const SHARE_LENGTH: usize = 4;
 
 // The bytes of a tree's link map.
-pub fn map_length(links: usize) -> usize
+fn map_length(links: usize) -> usize
     requires { ⌜ links ≤ mostLinks ⌝ }
     ensures { λ r. ⌜ r ≡ mapLength links ⌝ }
 {
@@ -45,6 +46,16 @@ pub fn record_at(at: usize, links: usize, tree: usize) -> usize
     ensures { λ r. ⌜ r ≡ at + tree * treeLength links ⌝ }
 {
     at + tree * tree_length(links)
+}
+
+// The link map of the tree record at a position.
+pub fn tree_map(s: &[u8], at: usize, links: usize) -> &[u8]
+    requires { ⌜ RecordWhole (now s) at links ⌝ }
+    ensures { λ r. ⌜ now r ≡ mapAt (now (s .entry)) at links ⌝ }
+{
+    let map_at = at + SHARE_LENGTH;
+    let end = map_at + map_length(links);
+    &s[map_at..end]
 }
 
 // The refusal number of a map's bits, 0 where they are not refused.
@@ -85,13 +96,11 @@ pub fn read_tree(
     requires { ⌜ TreesAhead (now s) at nodes links (now ends) ⌝ }
     ensures { λ r. ⌜ TreeRead (now (s .entry)) at nodes links (now (ends .entry)) r ⌝ }
 {
-    let size = map_length(links);
-    if s.len() - at < SHARE_LENGTH + size {
+    let size = tree_length(links);
+    if s.len() - at < size {
         return Step::Refused(refusals::CUT_OFF_TREE);
     }
-    let map_at = at + SHARE_LENGTH;
-    let end = map_at + size;
-    let map = &s[map_at..end];
+    let map = tree_map(s, at, links);
     let n = map_refusal(map, nodes, links);
     if n != 0 {
         return Step::Refused(n);
@@ -99,7 +108,7 @@ pub fn read_tree(
     let grown = grow_tree(map, nodes, links, ends);
     let joined = grown.joined;
     if joined {
-        Step::End(end)
+        Step::End(at + size)
     } else {
         Step::Refused(refusals::NOT_JOINED)
     }

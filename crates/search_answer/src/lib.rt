@@ -27,8 +27,8 @@ pub fn answer_sheet(
     weights: &[u32; MOST_LINKS],
 ) -> Answer
     requires { ⌜ SheetHeld current (now s) (now ends) (now weights) (countsOf c) at ⌝ }
-    ensures { λ r. ⌜ AnswerSays r
-        (answer (current .rules) (networkAt (now (s .entry)) (now (ends .entry)) (now (weights .entry)) (countsOf c) at)) ⌝ }
+    ensures { λ r. ⌜ AnswerSays r (answer (current .rules)
+        (networkAt (now (s .entry)) (now (ends .entry)) (now (weights .entry)) (countsOf c) at)) ⌝ }
 {
     let found = search_trees(s, at, c, ends, weights);
     let weight = found.weight;

@@ -2,10 +2,9 @@
 use format::limits::MOST_LINKS;
 use format::limits::MOST_NODES;
 use read_header::Counts;
-use read_sheet::tree_records::SHARE_LENGTH;
 use read_sheet::tree_records::grow_tree;
-use read_sheet::tree_records::map_length;
 use read_sheet::tree_records::record_at;
+use read_sheet::tree_records::tree_map;
 use search_order::Found;
 use search_order::unfound;
 use search_tree::index::index_links;
@@ -31,9 +30,7 @@ fn place_record(s: &[u8], at: usize, c: Counts, ends: &[[u8; MOST_LINKS]; 2]) ->
 {
     let nodes = c.nodes;
     let links = c.links;
-    let map_at = at + SHARE_LENGTH;
-    let end = map_at + map_length(links);
-    let map = &s[map_at..end];
+    let map = tree_map(s, at, links);
     place_tree(nodes, grow_tree(map, nodes, links, ends))
 }
 
@@ -48,8 +45,8 @@ fn search_listed(
     degrees: &[u64; MOST_NODES],
 ) -> Found
     requires { ⌜ SheetListed (now s) (now ends) (now weights) (now lists) (now degrees) (countsOf c) at ⌝ }
-    ensures { λ r. ⌜ Says r
-        (reported fewerNodes (networkAt (now (s .entry)) (now (ends .entry)) (now (weights .entry)) (countsOf c) at)) ⌝ }
+    ensures { λ r. ⌜ Says r (reported fewerNodes
+        (networkAt (now (s .entry)) (now (ends .entry)) (now (weights .entry)) (countsOf c) at)) ⌝ }
 {
     let nodes = c.nodes;
     let links = c.links;
@@ -73,8 +70,8 @@ pub fn search_trees(
     weights: &[u32; MOST_LINKS],
 ) -> Found
     requires { ⌜ SheetHeld current (now s) (now ends) (now weights) (countsOf c) at ⌝ }
-    ensures { λ r. ⌜ Says r
-        (reported fewerNodes (networkAt (now (s .entry)) (now (ends .entry)) (now (weights .entry)) (countsOf c) at)) ⌝ }
+    ensures { λ r. ⌜ Says r (reported fewerNodes
+        (networkAt (now (s .entry)) (now (ends .entry)) (now (weights .entry)) (countsOf c) at)) ⌝ }
 {
     let nodes = c.nodes;
     let links = c.links;

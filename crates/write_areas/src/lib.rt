@@ -47,7 +47,8 @@ fn packed(side: &[u8; MOST_NODES], at: usize) -> u8
 // Writes a side, given as marks: node k is bit k mod 8 of byte k / 8.
 pub fn write_side(area: &mut [u8], side: &[u8; MOST_NODES])
     requires { ⌜ sideLength ≤ length (now area) ⌝ }
-    ensures { λ _. ⌜ ((s : Side) → now (side .entry) ≡ marks s → now (area .exit) ≡ written (sideBytes s) (now (area .entry))) ⌝ }
+    ensures { λ _. ⌜ ((s : Side) → now (side .entry) ≡ marks s
+        → now (area .exit) ≡ written (sideBytes s) (now (area .entry))) ⌝ }
 {
     let mut j = 0;
     while j < SIDE_LENGTH {

@@ -2,14 +2,15 @@
 -- with as many links, and no load is past its link's weight; or the run ended at the tree before i, which would load a link past its
 -- weight, and they are those of the trees before that. A turn tests the next record, whose map is a slice of the sheet. No sum grows
 -- past 32 shares, each below 2^32. Assumes nothing.
-use Prim.Native.Nat.{_+_, _-_, _/_, _≤_, _<_}
-use mathlib.Core.Path.{_≡_, refl}
+use Prim.Native.Nat.{_+_, _-_, _≤_, _<_}
+use mathlib.Core.Path.{_≡_, refl, ap}
 use mathlib.Core.Logic.{⊎-elim}
 use native.Mathlib.Omega.{arith}
 use lib.ListN.{length}
 use Rattle.cuts.specs.Limits.{mostLinks}
-use Rattle.sheet.specs.Sheet.{mapLength, treeLength}
-use Rattle.read_sheet.proofs.TreeLaws.{mapAt-is, mapAt-length}
+use Rattle.sheet.specs.Bytes.{Bytes}
+use Rattle.sheet.specs.Sheet.{treeLength}
+use Rattle.read_sheet.proofs.TreeLaws.{mapAt-length}
 use Rattle.packing.proofs.ShareLaws.{Loaded, Progress, going, loaded-none, record-within, still-going, sum-small, all-counted, turn-counts, turn-ends}
 use Rattle.packing.proofs.count_trees.Statement.{statement}
 use Rattle.packing.proofs.count_trees.Tie as tie
@@ -24,12 +25,8 @@ abbrev μ-loop : tie.MeasureT-loop
 abbrev start : tie.At-loop Inv-loop μ-loop → tie.Start Inv-loop μ-loop
 start c = c .before .before .before
 
-map-length-requires : tie.Need-map-length-requires Inv-loop μ-loop
-map-length-requires c κs = c .before .pre .trees-there .few-links
-
--- the map's bytes
-sized : (c : tie.At-loop Inv-loop μ-loop) → c .before .map-length .result ≡ mapLength (start c .args .c .links)
-sized c = c .before .map-length .ensures
+tree-length-requires : tie.Need-tree-length-requires Inv-loop μ-loop
+tree-length-requires c κs = c .before .pre .trees-there .few-links
 
 loop-holds : tie.Need-loop-holds Inv-loop μ-loop
 loop-holds c =
@@ -50,28 +47,18 @@ module _ (c : tie.In-loop Inv-loop μ-loop) where
 four-requires : tie.Need-four-requires Inv-loop μ-loop
 four-requires c κs = omega (arith, whole c)
 
-add-map-at : tie.Need-add-map-at Inv-loop μ-loop
-add-map-at c = omega (arith, whole (c .before))
-
-add-end : tie.Need-add-end Inv-loop μ-loop
-add-end c = omega (arith, whole (c .before), sized (c .before .before))
-
-sub-count-tree : tie.Need-sub-count-tree Inv-loop μ-loop
-sub-count-tree c = omega arith
-
-part-count-tree-start : tie.Need-part-count-tree-start Inv-loop μ-loop
-part-count-tree-start c = omega arith
-
-part-count-tree-end : tie.Need-part-count-tree-end Inv-loop μ-loop
-part-count-tree-end c = omega (arith, whole (c .before .before), sized (c .before .before .before))
+tree-map-requires : tie.Need-tree-map-requires Inv-loop μ-loop
+tree-map-requires c κs = record { few-links = start (c .before .before) .pre .trees-there .few-links; inside = whole (c .before) }
 
 count-tree-requires : tie.Need-count-tree-requires Inv-loop μ-loop
 count-tree-requires c κs =
-    let b = c .before .before .before .before in
+    let m = c .before .before in
+    let b = m .before .before in
+    let a = start (b .before) .args in
     let p = start (b .before) .pre .trees-there in
     let l = loaded b .0 in
     record {
-      mapped = let a = start (b .before) .args in omega (arith, mapAt-length (a .s .now) (b .before .loop .place) (a .c .links) _ (sized (b .before)) (whole b));
+      mapped = omega (arith, ap (λ (map : Bytes). length map) (m .tree-map .ensures), mapAt-length (a .s .now) (b .before .loop .place) (a .c .links) (whole b));
       weighed = omega (arith, p .few-links);
       sized = omega (arith, l .sized, p .few-links);
       carried = l .carried;
@@ -88,6 +75,9 @@ add-sum : tie.Need-add-sum Inv-loop μ-loop
 add-sum c =
     let b = turn (c .before) .before in
     omega (arith, c .before .before .before .before .before .four .ok, sum-small (b .loop .inv) (start b .pre .trees-there .few-trees))
+
+add-place : tie.Need-add-place Inv-loop μ-loop
+add-place c = let t = turn (c .before) in omega (arith, whole t, t .before .before .tree-length .ensures)
 
 add-i : tie.Need-add-i Inv-loop μ-loop
 add-i c =
@@ -106,12 +96,13 @@ loop-again c =
     let a = start (t .before) .args in
     let place = t .before .loop .place in
     let four = n .before .before .before .before .four in
-    let slice = mapAt-is (a .s .now) place (a .c .links) _ (sized (t .before)) in
+    let slice = n .before .before .before .tree-map .ensures in
     let more : t .before .loop .i < a .c .trees = omega (arith, t .loop-test .taken, loaded t .1) in
-    let end = place + 4 + t .before .before .map-length .result in
+    let size = t .before .before .tree-length in
+    let end = place + size .result in
     let tested = n .count-tree .ensures in
     ⊎-elim
-    (λ w. rw (w .1, w .2) (turn-counts (loaded t .0) slice (whole t) (four .ensures) (tested .counts) (tested .added) (n .count-tree .kept .0) more end (w .0 .taken) (omega (arith, four .ok)) (omega arith) (loaded t .1)))
+    (λ w. rw (w .1, w .2) (turn-counts (loaded t .0) slice (whole t) (four .ensures) (tested .counts) (tested .added) (n .count-tree .kept .0) more end (w .0 .taken) (omega (arith, four .ok)) (omega (arith, size .ensures)) (loaded t .1)))
     (λ w. rw (w .1, w .2) (turn-ends (loaded t .0) slice (whole t) (four .ensures) (tested .counts) (tested .added) (n .count-tree .kept .0) more end (w .0 .left)))
     (c .if1 .came)
 
@@ -124,17 +115,14 @@ count-trees-spec =
     (tie.spec
     Inv-loop
     μ-loop
-    map-length-requires
+    tree-length-requires
     loop-holds
     four-requires
-    add-map-at
-    add-end
-    sub-count-tree
-    part-count-tree-start
-    part-count-tree-end
+    tree-map-requires
     count-tree-requires
     cast-sum
     add-sum
+    add-place
     add-i
     loop-less
     loop-again
