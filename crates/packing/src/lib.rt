@@ -3,7 +3,7 @@ use format::limits::MOST_LINKS;
 use format::maps::bit_set;
 use format::numbers::four;
 use read_header::Counts;
-use read_sheet::tree_records::tree_length;
+use read_sheet::tree_records::record_at;
 use read_sheet::tree_records::tree_map;
 ghost use mathlib.Core.Path.{_≡_};
 ghost use Prim.Native.Nat.{_*_, _≤_, min};
@@ -78,12 +78,11 @@ fn count_trees(
 {
     let links = c.links;
     let trees = c.trees;
-    let size = tree_length(links);
     let mut sum: u64 = 0;
-    let mut place = at;
     let mut stop = trees;
     let mut i = 0;
     while i < stop {
+        let place = record_at(at, links, i);
         let share = four(s, place);
         let map = tree_map(s, place, links);
         if count_tree(loads, map, links, weights, share) {
@@ -91,7 +90,6 @@ fn count_trees(
         } else {
             stop = i;
         }
-        place += size;
         i += 1;
     }
     sum

@@ -33,10 +33,9 @@ pub fn answer_sheet(
     let found = search_trees(s, at, c, ends, weights);
     let weight = found.weight;
     let floor = floor_of(s, at, c, weights, weight);
-    let verdict = verdict(floor, weight);
     Answer {
         found: found,
         floor: floor,
-        verdict: verdict,
+        verdict: verdict(floor, weight),
     }
 }
