@@ -19,7 +19,7 @@ extern "C" {
 #define WCUT_SIDE_BYTES 32       /* the side area: node k is bit k % 8 of byte k / 8 */
 #define WCUT_REPORT_BYTES 24     /* the report area, laid out as below */
 #define WCUT_LONGEST_SHEET 30853 /* a sheet of more bytes is refused */
-#define WCUT_STACK_BYTES 45056   /* what a call takes of the stack: measured on longest sheets (tools/bench --stack), not proved */
+#define WCUT_STACK_BYTES 45088   /* what a call takes of the stack: measured on longest sheets (tools/bench --stack), not proved */
 #define WCUT_MOST_NODES 256
 #define WCUT_MOST_LINKS 2048
 #define WCUT_MOST_TREES 32
