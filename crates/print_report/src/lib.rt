@@ -23,7 +23,7 @@ ghost use Rattle.sheet.specs.Sheet.{current, decode};
 ghost use Rattle.sheet.specs.Areas.{reportWidths, handleOf, answerOf, answerRead};
 ghost use Rattle.write_areas.specs.Fields.{fieldsOf};
 ghost use Rattle.print_text.specs.Decimal.{decimal};
-ghost use Rattle.print_text.specs.Line.{space, fieldsText, line, PutIn};
+ghost use Rattle.print_text.specs.Line.{space, fieldsText, line, PutIn, inRoom};
 ghost use Rattle.print_report.specs.Output.{answerWord, sideWord, secondField, answerFields, answerLines, output, mostOutput};
 
 // No output has more bytes: line 1 takes 75 with each field at its largest, line 2 with all 256 nodes 919.
@@ -146,11 +146,13 @@ fn put_output(out: &mut [u8], sheet: &[u8]) -> usize
     }
 }
 
-// What the report program prints for a sheet, as a part of the buffer, which has room for every output.
+// What the report program prints for a sheet, as a part of the buffer; a buffer that has no room for every output gets none.
 pub fn report_lines<'a>(out: &'a mut [u8], sheet: &[u8]) -> &'a mut [u8]
-    requires { ⌜ mostOutput ≤ length (now out) ⌝ }
-    ensures { λ r. ⌜ now r ≡ output current (decode current (now (sheet .entry))) ⌝ }
+    ensures { λ r. ⌜ now r ≡ inRoom mostOutput (now (out .entry)) (output current (decode current (now (sheet .entry)))) ⌝ }
 {
+    if out.len() < MOST_OUTPUT {
+        return &mut out[..0];
+    }
     let end = put_output(out, sheet);
     &mut out[..end]
 }

@@ -8,13 +8,16 @@
 --   refusedLine n            the line of the refusal n
 --   Put old at text new end  a buffer that held `old` holds `new`: the text is written from a position on, and ends at `end`
 --   PutIn most old at ..     the same of a text that takes at most so many bytes
+--   inRoom most out text     the text, if the buffer has room for so many bytes, else none
 use Prim.Native.Nat.{ℕ, _+_, _≤_}
 use Prim.Native.Char.{code}
 use Prim.Native.String.{String, [] as none, _∷_ as _then_}
 use mathlib.Core.Path.{_≡_}
+use mathlib.Core.Bool.{cond}
 use mathlib.Core.List.{List, [], _∷_, _++_}
 use lib.ListN.{length}
 use lib.Seq.{sets}
+use lib.Dec.{ltb}
 use Rattle.print_text.specs.Decimal.{Text, decimal}
 
 abbrev pub ascii : String → Text
@@ -49,3 +52,6 @@ pub record Put (old : Text) (at : ℕ) (text new : Text) (end : ℕ) : Type 0 wh
 pub record PutIn (most : ℕ) (old : Text) (at : ℕ) (text new : Text) (end : ℕ) : Type 0 where
   pub put : Put old at text new end
   pub few : end ≤ at + most
+
+abbrev pub inRoom : ℕ → Text → Text → Text
+inRoom most out text = cond (ltb (length out) most) [] text

@@ -12,7 +12,7 @@ ghost use lib.ListN.{length, take};
 ghost use Rattle.cuts.specs.Limits.{mostLinks};
 ghost use Rattle.sheet.specs.Sheet.{current};
 ghost use Rattle.sheet.specs.Trunks.{trunks};
-ghost use Rattle.print_text.specs.Line.{PutIn};
+ghost use Rattle.print_text.specs.Line.{PutIn, inRoom};
 ghost use Rattle.print_trunks.specs.Output.{linkLine, linesFrom, output, mostLine, mostOutput, LineRoom, LinesRoom};
 
 // No line has more bytes: four digits, a space, five digits and the line feed.
@@ -61,11 +61,13 @@ fn put_output(out: &mut [u8], sheet: &[u8]) -> usize
     }
 }
 
-// What the program prints for a sheet, as a part of the buffer, which has room for every output.
+// What the program prints for a sheet, as a part of the buffer; a buffer that has no room for every output gets none.
 pub fn trunk_lines<'a>(out: &'a mut [u8], sheet: &[u8]) -> &'a mut [u8]
-    requires { ⌜ mostOutput ≤ length (now out) ⌝ }
-    ensures { λ r. ⌜ now r ≡ output (trunks current (now (sheet .entry))) ⌝ }
+    ensures { λ r. ⌜ now r ≡ inRoom mostOutput (now (out .entry)) (output (trunks current (now (sheet .entry)))) ⌝ }
 {
+    if out.len() < MOST_OUTPUT {
+        return &mut out[..0];
+    }
     let end = put_output(out, sheet);
     &mut out[..end]
 }

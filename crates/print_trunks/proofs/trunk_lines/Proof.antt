@@ -1,25 +1,46 @@
--- `print_trunks::trunk_lines` meets its contract: the part in front of the position answered is what was put there. Assumes nothing.
+-- `print_trunks::trunk_lines` meets its contract: without room nothing is handed back, and with it the part in front of the position answered, which is
+-- what was put there. Assumes nothing.
 use Prim.Native.Nat.{_≤_}
 use mathlib.Core.Path.{sym}
 use native.Mathlib.Omega.{arith}
 use borrow.Author.Needs.{needs}
+use borrow.Author.Tests.{lt-ltb, le-ltb}
 use lib.ListN.{length}
 use lib.Seq.{length-take-le}
 use Rattle.print_text.proofs.LineLaws.{put-front, put-length}
+use Rattle.print_trunks.specs.Output.{mostOutput}
 use Rattle.print_trunks.proofs.trunk_lines.Statement.{statement}
 use Rattle.print_trunks.proofs.trunk_lines.Tie as tie
+
+slice-aggregate-result : tie.Need-slice-aggregate-result
+slice-aggregate-result c = search needs
+
+returns : tie.Need-returns
+returns c = let s = c .before .before .before .before in rw (lt-ltb (length (s .args .out .now)) mostOutput (c .before .if1 .taken))
 
 put-output-requires : tie.Need-put-output-requires
 put-output-requires c κs = search needs
 
-slice-aggregate-result : tie.Need-slice-aggregate-result
-slice-aggregate-result c =
-    let w = c .before .before .before in
-    let room = w .before .before .before .before .pre in
-    sym (length-take-le (w .put-output .result) (w .put-output .last .0) (omega (arith, room, w .put-output .ensures .few, put-length (w .put-output .ensures .put))))
+-- where there is room
+room : (c : tie.After-put-output) → mostOutput ≤ length (c .before .before .before .before .before .args .out .now)
+room c = omega (arith, c .before .before .if1 .left)
 
-returns : tie.Need-returns
-returns c = let w = c .before .before .before in put-front (w .put-output .ensures) (w .before .before .before .before .pre)
+slice-aggregate-result-2 : tie.Need-slice-aggregate-result-2
+slice-aggregate-result-2 c =
+    let w = c .before .before .before in
+    sym (length-take-le (w .put-output .result) (w .put-output .last .0) (omega (arith, room w, w .put-output .ensures .few, put-length (w .put-output .ensures .put))))
+
+returns-2 : tie.Need-returns-2
+returns-2 c =
+    let w = c .before .before .before in
+    rw (le-ltb (length (w .before .before .before .before .before .args .out .now)) mostOutput (room w)) (put-front (w .put-output .ensures) (room w))
 
 pub trunk-lines-spec : {M : Type 1} → statement M
-trunk-lines-spec = tie.close (tie.spec put-output-requires slice-aggregate-result returns)
+trunk-lines-spec =
+    tie.close
+    (tie.spec
+    slice-aggregate-result
+    returns
+    put-output-requires
+    slice-aggregate-result-2
+    returns-2)
