@@ -1,15 +1,15 @@
 -- A network's links as arrays hold them: first ends, second ends and weights, at the links' numbers. Assumes nothing.
---   EndArrays es          es has two arrays of as many numbers as there may be links, for the first ends and the second ends of links
---   LinkArrays es ws      so it has, and ws has as many numbers for the weights
+--   EndArrays es                  es has two arrays of as many numbers as there may be links, for their first and their second ends
+--   LinkArrays es ws              so it has, and ws has as many numbers for the weights
 --   firstEnds es, secondEnds es   the two arrays of ends
---   Ending fs ss n k      link k has its ends in the arrays, and they are nodes, of which there are n
---   EndsKnown es n m      so it is of the first m links
---   linksOf m fs ss ws    the m links whose first ends, second ends and weights stand in the arrays
---   Held net fs ss n      the arrays hold the network: its links' first ends in fs, their second ends in ss, all of them nodes, of which
---                         there are n, the root among them
---   Weighed net ws m      the network has m links, and ws has their weights
---   Laid net fs ss ws n m the arrays hold the network with its weights
---   Loopless net          no link joins a node to itself
+--   Ending fs ss n k              link k has its ends in the arrays, and they are nodes, of which there are n
+--   EndsKnown es n m              so it is of the first m links
+--   linksOf m fs ss ws            the m links whose first ends, second ends and weights stand in the arrays
+--   Held net fs ss n              the arrays hold the network: its links' first ends in fs, their second ends in ss, all of them nodes, of
+--                                 which there are n, the root among them
+--   Weighed net ws m              the network has m links, and ws has their weights
+--   Laid net fs ss ws n m         the arrays hold the network with its weights
+--   Loopless net                  no link joins a node to itself
 use Prim.Native.Nat.{ℕ, _<_}
 use mathlib.Core.Path.{_≡_}
 use mathlib.Core.List.{List}

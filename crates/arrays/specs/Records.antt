@@ -1,11 +1,11 @@
 -- The network that arrays and the tree records of a sheet hold. Assumes nothing.
---   treesFrom net k bs      the trees of the k records at the front of bs, each at its place behind the one before
---   networkAt s es ws c p   the network that the arrays, of ends and of weights, and the tree records from position p of s on hold, with
---                           the counts c
---   recordAt c p i          where the record of tree i stands, that of tree 0 standing at p
---   mapAt s p m             the link map, for m links, of the tree record that stands at p of s
---   SheetHeld f s es ws c p the records of all trees stand in s from p on, and the network that they and the arrays hold is one that a
---                           sheet of the format f gives
+--   treesFrom net k bs        the trees of the k records at the front of bs, each at its place behind the one before
+--   networkAt s es ws c p     the network that the arrays, of ends and of weights, and the tree records from position p of s on hold, with
+--                             the counts c
+--   recordAt c p i            where the record of tree i stands, that of tree 0 standing at p
+--   mapAt s p m               the link map, for m links, of the tree record that stands at p of s
+--   SheetHeld f s es ws c p   the records of all trees stand in s from p on, and the network that they and the arrays hold is one that a
+--                             sheet of the format f gives
 use Prim.Native.Nat.{ℕ, _+_, _*_, _≤_}
 use mathlib.Core.List.{List, []}
 use lib.ListN.{length, take, drop}

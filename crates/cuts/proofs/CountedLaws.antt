@@ -13,7 +13,7 @@ use lib.Seq.{take-length}
 use lib.Dec.{ltb}
 use borrow.Author.Tests.{ltb-true, lt-ltb}
 use Rattle.cuts.specs.Network.{Tree, Network, linkAt, linkCount}
-use Rattle.cuts.specs.Bound.{load, Packed, Overloads, overloaded, LongestRun, Counting, allOrNone, longestRun, Counts, runWithin, counted}
+use Rattle.cuts.specs.Bound.{load, Packed, Overloads, overloaded, LongestRun, Counting, allOrNone, longestRun, CountedBy, runWithin, counted}
 use Rattle.cuts.proofs.FlagLaws.{clash}
 use Rattle.cuts.proofs.SumLaws.{anyTo-some, anyTo-at}
 use Rattle.cuts.proofs.LoadLaws.{load-take}
@@ -95,7 +95,7 @@ module _ (net : Network) (ts : List Tree) where
   -- ---- the trees that count
 
   -- what is computed are the trees that count
-  pub counted-counts : (r : Counting) → Counts r net ts (counted r net ts)
+  pub counted-counts : (r : Counting) → CountedBy r net ts (counted r net ts)
   unfolding counted
   counted-counts longestRun = (runWithin net ts (length ts), run-longest, refl)
   counted-counts allOrNone = step (overloaded net ts) refl
@@ -105,7 +105,7 @@ module _ (net : Network) (ts : List Tree) where
       step false e = inl (overloaded-packed net ts e, refl)
 
   -- and no others count
-  pub counts-one : (r : Counting) (cs ds : List Tree) → Counts r net ts cs → Counts r net ts ds → cs ≡ ds
+  pub counts-one : (r : Counting) (cs ds : List Tree) → CountedBy r net ts cs → CountedBy r net ts ds → cs ≡ ds
   counts-one longestRun cs ds c d = c .2 ∙ ap (λ (n : ℕ). take n ts) (longest-one (c .0) (d .0) (c .1) (d .1)) ∙ sym (d .2)
   counts-one allOrNone cs ds (inl c) (inl d) = c .1 ∙ sym (d .1)
   counts-one allOrNone cs ds (inr c) (inr d) = c .1 ∙ sym (d .1)
@@ -113,14 +113,14 @@ module _ (net : Network) (ts : List Tree) where
   counts-one allOrNone cs ds (inr c) (inl d) = absurd (packed-not net ts (d .0) (c .0))
 
   -- they are a packing
-  pub counts-packed : (r : Counting) (cs : List Tree) → Counts r net ts cs → Packed net cs
+  pub counts-packed : (r : Counting) (cs : List Tree) → CountedBy r net ts cs → Packed net cs
   unfolding load
   counts-packed longestRun cs c = subst (Packed net) (sym (c .2)) (c .1 .packed)
   counts-packed allOrNone cs (inl c) = subst (Packed net) (sym (c .1)) (c .0)
   counts-packed allOrNone cs (inr c) = subst (Packed net) (sym (c .1)) (λ k b. omega arith)
 
   -- of listed trees
-  pub counts-listed : (r : Counting) (cs : List Tree) → Counts r net ts cs → (t : Tree) → List·Memᴰ t cs → List·Memᴰ t ts
+  pub counts-listed : (r : Counting) (cs : List Tree) → CountedBy r net ts cs → (t : Tree) → List·Memᴰ t cs → List·Memᴰ t ts
   counts-listed longestRun cs c t m = rw take-append-drop at (Memᴰ·append-left (drop (c .0) ts) (subst (List·Memᴰ t) (c .2) m))
   counts-listed allOrNone cs (inl c) t m = subst (List·Memᴰ t) (c .1) m
   counts-listed allOrNone cs (inr c) t m = absurd (List·Memᴰ·not-nil (subst (List·Memᴰ t) (c .1) m))
@@ -132,6 +132,6 @@ module _ (net : Network) (ts : List Tree) where
   pub counted-all : (r : Counting) → Packed net ts → counted r net ts ≡ ts
   counted-all r p = counts-one r (counted r net ts) ts (counted-counts r) (all r)
     where
-      all : (r : Counting) → Counts r net ts ts
+      all : (r : Counting) → CountedBy r net ts ts
       all allOrNone = inl (p, refl)
       all longestRun = (length ts, record { listed = omega arith; packed = rw take-length p; full = inl refl }, sym (take-length ts))

@@ -17,7 +17,7 @@ use Rattle.cuts.specs.Network.{Tree, Network, Linked, flag, linkCount, n
 use Rattle.cuts.specs.Cut.{Side, Respects, Proper, Rootless, crosses, cutWeight, crossings, size}
 use Rattle.cuts.specs.Tree.{Spanning, Sound, memberCount}
 use Rattle.cuts.specs.Candidate.{Candidate, Handle, Fits, Rank, LowerThen, Earlier, Precedes, one, two, candidate, candidates, ahead, noCandidate, sideOf}
-use Rattle.cuts.specs.Bound.{shares, Counting, Counts, counted, floor}
+use Rattle.cuts.specs.Bound.{shares, Counting, CountedBy, counted, floor}
 use Rattle.cuts.specs.Answer.{Rules, Answer, certified, treesOnly, verdictOf, reported, judged, answer}
 use Rattle.cuts.specs.Demands.{Demand2, Demand3, Owed}
 use Rattle.cuts.proofs.FlagLaws.{clash, truth}
@@ -255,7 +255,7 @@ module _ (net : Network) (v : Sound net) where
         cs : List Tree
         cs = counted r net (net .trees)
 
-        counts : Counts r net (net .trees) cs
+        counts : CountedBy r net (net .trees) cs
         counts = counted-counts net (net .trees) r
 
         step : ((i : ℕ) × (i < length (net .trees)) × (Respects net (treeAt net i) s)) ⊎ ((t : Tree) → List·Memᴰ t (net .trees) → 3 ≤ crossings net t s)

@@ -10,7 +10,7 @@ use native.Mathlib.Omega.{arith}
 use Rattle.cuts.specs.Network.{Network}
 use Rattle.cuts.specs.Tree.{Sound}
 use Rattle.cuts.specs.Candidate.{Handle, one, two, Candidate, Rank, alike, fewerNodes, Sooner, Earlier, Precedes}
-use Rattle.cuts.specs.Bound.{shares, Packed, Overloads, Counting, allOrNone, longestRun, Counts, counted, floor}
+use Rattle.cuts.specs.Bound.{shares, Packed, Overloads, Counting, allOrNone, longestRun, CountedBy, counted, floor}
 use Rattle.cuts.specs.Answer.{Answer, certified, verdictOf, reported, judged, answer}
 use Rattle.cuts.proofs.CountedLaws.{counted-counts, counted-all}
 use Rattle.cuts.proofs.Least.{first-in}
@@ -42,14 +42,14 @@ module _ (rank : Rank) (net : Network) where
   unfolding answer judged floor shares
   floor-0-before o = step (counted-counts net (net .trees) allOrNone)
     where
-      step : Counts allOrNone net (net .trees) (counted allOrNone net (net .trees)) → min (sold .best .weight) (3 * shares (counted allOrNone net (net .trees))) ≡ 0
+      step : CountedBy allOrNone net (net .trees) (counted allOrNone net (net .trees)) → min (sold .best .weight) (3 * shares (counted allOrNone net (net .trees))) ≡ 0
       step (inl c) = let a = c .0 (o .0) (o .1) in absurd (omega (arith, o .2))
       step (inr c) = rw (c .1) (omega arith)
 
   pub floor-no-less : sold .floor ≤ tolerant .floor
   floor-no-less = step (counted-counts net (net .trees) allOrNone)
     where
-      step : Counts allOrNone net (net .trees) (counted allOrNone net (net .trees)) → sold .floor ≤ tolerant .floor
+      step : CountedBy allOrNone net (net .trees) (counted allOrNone net (net .trees)) → sold .floor ≤ tolerant .floor
       step (inl c) = rw (answer-before (c .0)) (omega arith)
       step (inr c) = rw (floor-0-before (c .0)) (omega arith)
 

@@ -1,18 +1,18 @@
 -- The loads of a tree packing, the trees that count, and the bound that these give on every cut (document 01, "What is reckoned"; document
 -- 02, F-3; source 001, Definition 2, with a load held to its link's weight in place of 1). Assumes nothing.
---   load ts k             the sum of the shares of those of the trees ts that hold link k
---   shares ts             the sum of all their shares
---   Packed net ts         the trees ts load no link past its weight: they are a packing
---   Overloads net ts      they load some link past its weight
---   overloaded net ts     whether they do
---   LongestRun net ts n   the first n of the trees ts are the longest run from the first on that loads no link past its weight
---   Counting              a rule that says which trees count for the floor
---   allOrNone             document 01's rule, of units already sold: all trees, or none where they load a link past its weight
---   longestRun            the rule of request F-3: the longest run that loads no link past its weight
---   Counts r net ts cs    of the trees ts those that count by the rule r are cs
---   runWithin net ts n    how many trees the longest such run of at most n trees has
---   counted r net ts      those of the trees ts that count by the rule r
---   floor cs w            the lesser of w and three times the shares of cs, the trees that count; 0 where none does
+--   load ts k               the sum of the shares of those of the trees ts that hold link k
+--   shares ts               the sum of all their shares
+--   Packed net ts           the trees ts load no link past its weight: they are a packing
+--   Overloads net ts        they load some link past its weight
+--   overloaded net ts       whether they do
+--   LongestRun net ts n     the first n of the trees ts are the longest run from the first on that loads no link past its weight
+--   Counting                a rule that says which trees count for the floor
+--   allOrNone               document 01's rule, of units already sold: all trees, or none where they load a link past its weight
+--   longestRun              the rule of request F-3: the longest run that loads no link past its weight
+--   CountedBy r net ts cs   of the trees ts those that count by the rule r are cs
+--   runWithin net ts n      how many trees the longest such run of at most n trees has
+--   counted r net ts        those of the trees ts that count by the rule r
+--   floor cs w              the lesser of w and three times the shares of cs, the trees that count; 0 where none does
 use Prim.Native.Nat.{ℕ, zero, suc, _+_, _*_, _≤_, _<_, min}
 use mathlib.Core.Path.{_≡_}
 use mathlib.Core.Logic.{_⊎_}
@@ -55,11 +55,11 @@ pub data Counting : Type 0 where
   allOrNone : Counting
   longestRun : Counting
 
-abbrev pub Counts : Counting → Network → List Tree → List Tree → Type 0
+abbrev pub CountedBy : Counting → Network → List Tree → List Tree → Type 0
 -- "The floor is 0 if any load exceeds its link's weight. Otherwise it is .. three times the sum of all shares"
-Counts allOrNone net ts cs = (Packed net ts × (cs ≡ ts)) ⊎ (Overloads net ts × (cs ≡ []))
+CountedBy allOrNone net ts cs = (Packed net ts × (cs ≡ ts)) ⊎ (Overloads net ts × (cs ≡ []))
 -- "the trees that count are the longest run from tree 0 on that loads no link past its weight"
-Counts longestRun net ts cs = (n : ℕ) × LongestRun net ts n × (cs ≡ take n ts)
+CountedBy longestRun net ts cs = (n : ℕ) × LongestRun net ts n × (cs ≡ take n ts)
 
 unfoldable pub runWithin : Network → List Tree → ℕ → ℕ
 unfolding overloaded

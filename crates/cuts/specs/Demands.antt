@@ -16,7 +16,7 @@ use Rattle.cuts.specs.Network.{Tree, Network, treeAt}
 use Rattle.cuts.specs.Cut.{Side, Respects, Proper, Rootless, crosses, cutWeight, crossings, size}
 use Rattle.cuts.specs.Tree.{Member}
 use Rattle.cuts.specs.Candidate.{Handle, Candidate, Fits, names, sideOf, weightOf, candidates, Precedes}
-use Rattle.cuts.specs.Bound.{Counting, Counts, shares}
+use Rattle.cuts.specs.Bound.{Counting, CountedBy, shares}
 use Rattle.cuts.specs.Paths.{Reaches, Paths}
 use Rattle.cuts.specs.Answer.{Rules, Answer, certified, treesOnly}
 
@@ -58,7 +58,7 @@ pub record Demand3 (counting : Counting) (net : Network) (a : Answer) : Type 0 w
   -- F-3, in place of the demand's sum of all shares and its 0 elsewhere: "the trees that count are the longest run from tree 0 on
   -- that loads no link past its weight, and the floor uses the sum of their shares only"
   pub counted : List Tree
-  pub counts : Counts counting net (net .trees) counted
+  pub counts : CountedBy counting net (net .trees) counted
   pub floor-is : a .floor ≡ min (a .best .weight) (3 * shares counted)
   -- "Every side of the whole network, neither empty nor full, whether or not a tree shows it, weighs at least the reported floor"
   pub floor-bounds : (s : Side) → Proper net s → a .floor ≤ cutWeight net s

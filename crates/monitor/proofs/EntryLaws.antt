@@ -13,7 +13,7 @@ use Rattle.sheet.specs.Reading.{firstFailing, accepted, refused}
 use Rattle.sheet.specs.Sheet.{Format, decode}
 use Rattle.sheet.specs.Areas.{reportLength, sideAfter, reportAfter, answerRead, sideLeft, reportLeft}
 use Rattle.sheet.proofs.Acceptance.{decode-zero}
-use Rattle.op_report.specs.Areas.{SheetReported}
+use Rattle.op_report.specs.Reports.{SheetReported}
 use Rattle.monitor.specs.Entry.{areaChecks, reading, Reported}
 
 module _ (f : Format) (sheet side report : Bytes) where

@@ -1,1 +1,1 @@
-pub mod Areas
+pub mod Reports

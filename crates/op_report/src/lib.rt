@@ -17,7 +17,7 @@ ghost use Rattle.sheet.specs.Areas.{secondLink};
 ghost use Rattle.arrays.specs.Records.{networkAt};
 ghost use Rattle.search_order.specs.Choice.{chosen};
 ghost use Rattle.read_header.specs.HeaderRead.{countsOf};
-ghost use Rattle.op_report.specs.Areas.{Room, Lent, AreasWritten, Writable, AnswerWritten, SheetReported};
+ghost use Rattle.op_report.specs.Reports.{Room, Lent, AreasWritten, Writable, AnswerWritten, SheetReported};
 
 // The second link as the report has it.
 fn second_link(first: u16, second: u16) -> u16

@@ -14,7 +14,7 @@ use Rattle.sheet.specs.Sheet.{Format, Counts, headerLength, countsIn, decode}
 use Rattle.sheet.specs.Areas.{written}
 use Rattle.sheet.specs.Trunks.{trunksFrom, trunks}
 use Rattle.read_links.specs.LinksRead.{LinksThere}
-use Rattle.op_trunks.specs.Numbers.{TrunksRead}
+use Rattle.op_trunks.specs.TrunksRead.{TrunksRead}
 use Rattle.sheet.proofs.Acceptance.{decode-parts, links-counted, decode-accepted}
 use Rattle.sheet.proofs.Sizes.{headerRecord-is}
 use Rattle.sheet.proofs.TrunkLaws.{trunksFrom-length, trunks-accepted}

@@ -1,1 +1,1 @@
-pub mod Numbers
+pub mod TrunksRead

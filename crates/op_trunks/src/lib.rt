@@ -5,7 +5,7 @@ use read_links::trunks::trunk_numbers;
 use read_sheet::Outcome;
 use read_sheet::read_sheet;
 ghost use Rattle.sheet.specs.Sheet.{current};
-ghost use Rattle.op_trunks.specs.Numbers.{TrunksRead};
+ghost use Rattle.op_trunks.specs.TrunksRead.{TrunksRead};
 
 // Reads a sheet, writes the trunk number of each link to the front of the area, and returns 0; or returns the number of the first
 // refusal, which is the panel reader's, and leaves the area as it was.

@@ -21,7 +21,7 @@ ghost use Rattle.cuts.specs.Limits.{mostNodes};
 ghost use Rattle.sheet.specs.Bytes.{fields, mapBit};
 ghost use Rattle.sheet.specs.Sheet.{current, decode};
 ghost use Rattle.sheet.specs.Areas.{reportWidths, handleOf, answerOf, answerRead};
-ghost use Rattle.write_areas.specs.Fields.{fieldsOf};
+ghost use Rattle.write_areas.specs.ReportFields.{valuesOf};
 ghost use Rattle.print_text.specs.Decimal.{decimal};
 ghost use Rattle.print_text.specs.Line.{space, fieldsText, line, PutIn, inRoom};
 ghost use Rattle.print_report.specs.Output.{answerWord, sideWord, secondField, answerFields, answerLines, output, mostOutput};
@@ -31,7 +31,7 @@ pub const MOST_OUTPUT: usize = 994;
 
 // The report that stands in a report area.
 fn read_report(area: &[u8; REPORT_LENGTH]) -> Report
-    ensures { λ r. ⌜ fieldsOf r ≡ fields (reportWidths current) (now (area .entry)) ⌝ }
+    ensures { λ r. ⌜ valuesOf r ≡ fields (reportWidths current) (now (area .entry)) ⌝ }
 {
     Report {
         verdict: area[0],
@@ -84,7 +84,7 @@ fn put_cut(out: &mut [u8], at: usize, tree: u8, first: u16, second: u16, count: 
 fn answer_line(out: &mut [u8], r: Report) -> usize
     requires { ⌜ 75 ≤ length (now out) ⌝ }
     ensures { λ end. ⌜ PutIn 75 (now (out .entry)) 0
-        (line answerWord (answerFields (answerOf (fieldsOf r) []))) (now (out .exit)) end ⌝ }
+        (line answerWord (answerFields (answerOf (valuesOf r) []))) (now (out .exit)) end ⌝ }
 {
     let mut end = put_word(out, 0, b"answer");
     end = put_bounds(out, end, r.verdict, r.weight, r.floor);

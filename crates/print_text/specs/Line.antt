@@ -1,14 +1,14 @@
 -- Lines of a keyword and fields, and text in a buffer (document 01: fields are parted by one space and each line ends with a line feed).
 -- Assumes nothing.
---   ascii s                  the bytes of the characters s
---   space, lineFeed          single characters
---   fieldsText fs            the fields fs, a space in front of each
---   line keyword fs          the line of a keyword and fields
---   refusedWord              the keyword of a refusal
---   refusedLine n            the line of the refusal n
---   Put old at text new end  a buffer that held `old` holds `new`: the text is written from a position on, and ends at `end`
---   PutIn most old at ..     the same of a text that takes at most so many bytes
---   inRoom most out text     the text, if the buffer has room for so many bytes, else none
+--   ascii s                   the bytes of the characters s
+--   space, lineFeed           single characters
+--   fieldsText fs             the fields fs, a space in front of each
+--   line keyword fs           the line of a keyword and fields
+--   refusedWord               the keyword of a refusal
+--   refusedLine n             the line of the refusal n
+--   Put old at text new end   a buffer that held `old` holds `new`: the text is written from a position on, and ends at `end`
+--   PutIn most old at ..      the same of a text that takes at most so many bytes
+--   inRoom most out text      the text, if the buffer has room for so many bytes, else none
 use Prim.Native.Nat.{ℕ, _+_, _≤_}
 use Prim.Native.Char.{code}
 use Prim.Native.String.{String, [] as none, _∷_ as _then_}

@@ -15,7 +15,7 @@ use Rattle.sheet.specs.Trunks.{trunksFrom, trunks}
 use Rattle.sheet.proofs.Acceptance.{decode-zero}
 use Rattle.sheet.proofs.TrunkLaws.{trunks-refused, trunksFrom-length, trunks-accepted}
 use Rattle.print_text.specs.Line.{refusedLine}
-use Rattle.op_trunks.specs.Numbers.{TrunksRead}
+use Rattle.op_trunks.specs.TrunksRead.{TrunksRead}
 use Rattle.op_trunks.proofs.NumberLaws.{header-links}
 use Rattle.print_trunks.specs.Output.{linesFrom, output}
 

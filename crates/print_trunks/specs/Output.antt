@@ -1,11 +1,11 @@
 -- What the program `trunks` prints (request F-9: "prints each link's number and trunk number, a line a link, or the refusal as before").
 -- Assumes nothing.
---   linkLine k t      the line of link k with the trunk number t
---   linesFrom k ts    the lines of the links from k on, whose trunk numbers are ts
---   output r          what is printed where r is what the crew's reader reads
---   mostLine          no line has more bytes: four digits, a space, five digits and the line feed
---   mostOutput        no output has more bytes: a line for each link
---   LineRoom out k l  there is room for a line from position k on, and l is the number of a link
+--   linkLine k t         the line of link k with the trunk number t
+--   linesFrom k ts       the lines of the links from k on, whose trunk numbers are ts
+--   output r             what is printed where r is what the crew's reader reads
+--   mostLine             no line has more bytes: four digits, a space, five digits and the line feed
+--   mostOutput           no output has more bytes: a line for each link
+--   LineRoom out k l     there is room for a line from position k on, and l is the number of a link
 --   LinesRoom out ts n   there is room for every output, and ts has n trunk numbers, no more than there may be links
 use Prim.Native.Nat.{ℕ, suc, _+_, _*_, _≤_, _<_}
 use mathlib.Core.List.{List, [], _∷_, _++_}

@@ -1,10 +1,10 @@
 -- The trees of a sheet that was read, each from its record. Assumes nothing.
---   RecordHeld s p c es           a whole tree record stands at p, whose map has as many ones as a tree has members, and es has the ends of
---                                 the links
---   RecordPlaced s p c es r       r has its tree by places, of every network whose ends es has and which it spans
---   SheetListed s es ws ls ds c p sheet and arrays hold a network, its links are listed by node, and ds has the weight of each node's links
---   Markable s es c p i           sheet and ends hold a network, whatever its weights, and i is one of its trees
---   SideMarked net found side     the marks are those of the side of what was found, if its links are members of its tree
+--   RecordHeld s p c es             a whole tree record stands at p, whose map has as many ones as a tree has members, and es has the ends of
+--                                   the links
+--   RecordPlaced s p c es r         r has its tree by places, of every network whose ends es has and which it spans
+--   SheetListed s es ws ls ds c p   sheet and arrays hold a network, its links are listed by node, and ds has the weight of each node's links
+--   Markable s es c p i             sheet and ends hold a network, whatever its weights, and i is one of its trees
+--   SideMarked net found side       the marks are those of the side of what was found, if its links are members of its tree
 use Prim.Native.Nat.{ℕ, _+_, _-_, _≤_, _<_}
 use mathlib.Core.Path.{_≡_}
 use mathlib.Core.List.{List}

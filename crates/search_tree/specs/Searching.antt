@@ -1,6 +1,6 @@
 -- Searching a tree by rows: what it needs, where the next pair is that is light enough, what stays of the figures, and what an index of the
 -- links has. Assumes nothing.
---   Weighable figures node         no figure is missing, and each place has a node
+--   PlacesWeighable figures node   no figure is missing, and each place has a node
 --   BesideDegrees f g              g has the sums, the singles and the tallies of f
 --   RowFrom st n u from            of n nodes, `from` is a place behind u or the end, and st is stopped
 --   RowAt st n u                   of n nodes, u is a place behind the root's, and st is stopped
@@ -24,7 +24,7 @@ use Rattle.search_order.specs.Visits.{handleAt}
 
 -- ---- the figures
 
-pub record Weighable (figures node : List ℕ) : Type 0 where
+pub record PlacesWeighable (figures node : List ℕ) : Type 0 where
   pub all-figures : length figures ≡ figuresLength
   pub all-nodes : length node ≡ mostNodes
 

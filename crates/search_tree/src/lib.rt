@@ -30,11 +30,11 @@ ghost use Rattle.tree_rows.specs.Rows.{Weighted, degreesIn};
 ghost use Rattle.tree_rows.specs.Making.{Searchable, Searched, RowHeld};
 ghost use Rattle.search_order.specs.Choice.{Says, Prior, treeCandidates};
 ghost use Rattle.search_order.specs.Visits.{Reached};
-ghost use Rattle.search_tree.specs.Searching.{Weighable, BesideDegrees, RowFrom, RowAt, NextLight};
+ghost use Rattle.search_tree.specs.Searching.{PlacesWeighable, BesideDegrees, RowFrom, RowAt, NextLight};
 
 // The degree of the node at each place, in its part of `figures`.
 fn weigh_places(figures: &mut [u64], node: &[u8], degrees: &[u64; MOST_NODES])
-    requires { ⌜ Weighable (now figures) (now node) ⌝ }
+    requires { ⌜ PlacesWeighable (now figures) (now node) ⌝ }
     ensures { λ _. ⌜ ((p : ℕ) → p < mostNodes
         → entry (degreesIn (now (figures .exit))) p ≡ entry (now (degrees .entry)) (entry (now (node .entry)) p)) ⌝ }
     ensures { λ _. ⌜ BesideDegrees (now (figures .entry)) (now (figures .exit)) ⌝ }

@@ -1,20 +1,20 @@
 -- The side area and the report area (document 01, "Side area and report area"), by the format. Assumes nothing.
---   sideLength                 the bytes of a side area that are written
---   sideBytes s                the bytes of the side area: node k is bit k; past its last node a side has no flag set
---   reportWidths f             the widths of the report area's fields
---   reportLength f             how many bytes the report area has: the sum of these widths
---   firstLink h, secondLink h  the links that a handle names; noSecond, 65535, stands for the second of a single one
---   reportFields a             verdict, tree, nodes in the side, first link, second link, weight, floor
---   reportBytes f a            the bytes of the report area
---   written new old            an area that held `old`, with `new` written to its front: the rest stands as it stood
---   sideAfter f net old        the side area after the answer of the network is written
---   reportAfter f net old      the report area after it
---   sideLeft f old r           a side area that held `old`, where r was read: the answer is written if a network was
---   reportLeft f old r         the same of a report area
---   sideRead nodes area        the side that stands in a side area
---   handleOf e f               the handle whose links these are
---   answerOf fs s              the answer with the fields fs and the side s
---   answerRead f nodes side r  the answer that stands in a side area and a report area
+--   sideLength                  the bytes of a side area that are written
+--   sideBytes s                 the bytes of the side area: node k is bit k; past its last node a side has no flag set
+--   reportWidths f              the widths of the report area's fields
+--   reportLength f              how many bytes the report area has: the sum of these widths
+--   firstLink h, secondLink h   the links that a handle names; noSecond, 65535, stands for the second of a single one
+--   reportFields a              verdict, tree, nodes in the side, first link, second link, weight, floor
+--   reportBytes f a             the bytes of the report area
+--   written new old             an area that held `old`, with `new` written to its front: the rest stands as it stood
+--   sideAfter f net old         the side area after the answer of the network is written
+--   reportAfter f net old       the report area after it
+--   sideLeft f old r            a side area that held `old`, where r was read: the answer is written if a network was
+--   reportLeft f old r          the same of a report area
+--   sideRead nodes area         the side that stands in a side area
+--   handleOf e f                the handle whose links these are
+--   answerOf fs s               the answer with the fields fs and the side s
+--   answerRead f nodes side r   the answer that stands in a side area and a report area
 use Prim.Native.Nat.{ℕ, _+_, _*_}
 use mathlib.Core.Bool.{cond}
 use mathlib.Core.List.{List, [], _∷_, _++_}

@@ -21,9 +21,9 @@ use Rattle.arrays.specs.Lists.{entry}
 use Rattle.arrays.specs.Order.{Ordered}
 use Rattle.arrays.proofs.OrderLaws.{parent-in, not-root}
 use Rattle.tree_places.specs.Places.{stopNumbers, Rooted, Sized, Heaviest}
-use Rattle.tree_places.specs.Passes.{sizeIn, ahead, shift, seat, freed, Placing}
+use Rattle.tree_places.specs.Passes.{sizeIn, inFront, shift, seat, freed, Placing}
 use Rattle.tree_places.proofs.SmallLaws.{small}
-use Rattle.tree_places.proofs.ShiftLaws.{ahead-suc, ahead-none, sizes-split, sizes-some, sizes-root, shift-inside}
+use Rattle.tree_places.proofs.ShiftLaws.{inFront-suc, inFront-none, sizes-split, sizes-some, sizes-root, shift-inside}
 
 module _ {net : Network} {t : Tree} {order parents uplinks sizes heavy : List ℕ} {nodes : ℕ}
     (r : Rooted net t order parents uplinks nodes) (s : Sized net t uplinks sizes) (m : Heaviest net parents sizes heavy) where
@@ -42,7 +42,7 @@ module _ {net : Network} {t : Tree} {order parents uplinks sizes heavy : List �
     room = λ j d. let q : j ≡ 0 = omega arith in let e = sizes-root r s m in rw (q, o .listed .start, a) (omega arith);
     frees = λ j d.
         let q : j ≡ 0 = omega arith in
-        let e : ahead order parents sizes heavy (entry order 0) 1 ≡ 0 = ahead-none r s m 0 (g .linked .rooted) in
+        let e : inFront order parents sizes heavy (entry order 0) 1 ≡ 0 = inFront-none r s m 0 (g .linked .rooted) in
         rw (q, l, e, o .listed .start, a, c) (omega arith);
   }
 
@@ -63,8 +63,8 @@ module _ {net : Network} {t : Tree} {order parents uplinks sizes heavy : List �
     parent-has : (P : ℕ → Type 0) → ((j : ℕ) → j < i → P (entry order j)) → P p
     parent-has P h = let d = o .listed .tied i z b in subst P (d .above) (h (d .at) (d .before))
 
-    free-is : entry free p ≡ entry place p + 1 + sizeIn sizes (entry heavy p) + ahead order parents sizes heavy p i
-    free-is = parent-has (λ v. entry free v ≡ entry place v + 1 + sizeIn sizes (entry heavy v) + ahead order parents sizes heavy v i) (w .frees)
+    free-is : entry free p ≡ entry place p + 1 + sizeIn sizes (entry heavy p) + inFront order parents sizes heavy p i
+    free-is = parent-has (λ v. entry free v ≡ entry place v + 1 + sizeIn sizes (entry heavy v) + inFront order parents sizes heavy v i) (w .frees)
 
     seat-is : seat heavy place free p x ≡ entry place p + 1 + shift order parents sizes heavy p i
     seat-is = go (truth (eqb (entry heavy p) x))
@@ -112,27 +112,27 @@ module _ {net : Network} {t : Tree} {order parents uplinks sizes heavy : List �
       new : entry place′ x ≡ seat heavy place free p x
       new = let u = x-in in getD-set-same place x (seat heavy place free p x) 0 (omega arith)
 
-      free-old : (j : ℕ) → j < i → entry free′ (entry order j) ≡ entry place (entry order j) + 1 + sizeIn sizes (entry heavy (entry order j)) + ahead order parents sizes heavy (entry order j) (suc i)
+      free-old : (j : ℕ) → j < i → entry free′ (entry order j) ≡ entry place (entry order j) + 1 + sizeIn sizes (entry heavy (entry order j)) + inFront order parents sizes heavy (entry order j) (suc i)
       free-old j c = getD-set-other (freed heavy sizes free p x) x (entry order j) (seat heavy place free p x + 1 + sizeIn sizes (entry heavy x)) 0 (other j c)
           ∙ go (truth (eqb p (entry order j))) (truth (eqb (entry heavy p) x))
         where
           go : (eqb p (entry order j) ≡ true) ⊎ (eqb p (entry order j) ≡ false) → (eqb (entry heavy p) x ≡ true) ⊎ (eqb (entry heavy p) x ≡ false)
-              → entry (freed heavy sizes free p x) (entry order j) ≡ entry place (entry order j) + 1 + sizeIn sizes (entry heavy (entry order j)) + ahead order parents sizes heavy (entry order j) (suc i)
+              → entry (freed heavy sizes free p x) (entry order j) ≡ entry place (entry order j) + 1 + sizeIn sizes (entry heavy (entry order j)) + inFront order parents sizes heavy (entry order j) (suc i)
           go (inl q) (inl y) =
-              let a = ahead-suc r s m (entry order j) i z in
+              let a = inFront-suc r s m (entry order j) i z in
               let f = w .frees j c in
               let h : only (eqb p (entry order j) && not (eqb (entry heavy (entry order j)) x)) (entry sizes x) ≡ 0 = rw (q, ← eqb-true p (entry order j) q, y) in
               rw y (omega arith)
           go (inl q) (inr y) =
               let u = p-in in
-              let a = ahead-suc r s m (entry order j) i z in
+              let a = inFront-suc r s m (entry order j) i z in
               let f = w .frees j c in
               let h : only (eqb p (entry order j) && not (eqb (entry heavy (entry order j)) x)) (entry sizes x) ≡ entry sizes x = rw (q, ← eqb-true p (entry order j) q, y) in
               let d : entry (set free p (entry free p + entry sizes x)) (entry order j) ≡ entry free (entry order j) + entry sizes x
               = rw (← eqb-true p (entry order j) q) (getD-set-same free p (entry free p + entry sizes x) 0 (omega arith)) in
               rw y (omega arith)
           go (inr q) y = same y
-              ∙ (let a = ahead-suc r s m (entry order j) i z in
+              ∙ (let a = inFront-suc r s m (entry order j) i z in
               let f = w .frees j c in
               let h : only (eqb p (entry order j) && not (eqb (entry heavy (entry order j)) x)) (entry sizes x) ≡ 0 = rw q in
               omega arith)
@@ -163,9 +163,9 @@ module _ {net : Network} {t : Tree} {order parents uplinks sizes heavy : List �
         room = all-suc (λ j. entry place′ (entry order j) + entry sizes (entry order j) ≤ net .nodes) i
             (λ j c. rw (old j c) (w .room j c))
             (rw new seat-room);
-        frees = all-suc (λ j. entry free′ (entry order j) ≡ entry place′ (entry order j) + 1 + sizeIn sizes (entry heavy (entry order j)) + ahead order parents sizes heavy (entry order j) (suc i)) i
+        frees = all-suc (λ j. entry free′ (entry order j) ≡ entry place′ (entry order j) + 1 + sizeIn sizes (entry heavy (entry order j)) + inFront order parents sizes heavy (entry order j) (suc i)) i
             (λ j c. rw (old j c) (free-old j c))
-            (rw (new, ahead-none r s m i b) (free-new ∙ omega arith));
+            (rw (new, inFront-none r s m i b) (free-new ∙ omega arith));
       }
 
   -- ---- the pass over lists of mostNodes numbers, with sums to mostNodes

@@ -18,7 +18,7 @@ use Rattle.arrays.specs.Lists.{entry}
 use Rattle.arrays.specs.Order.{Ordered}
 use Rattle.arrays.proofs.OrderLaws.{Spot, spot, parent-in, not-root}
 use Rattle.tree_places.specs.Places.{Rooted, Sized, Heaviest}
-use Rattle.tree_places.specs.Passes.{child, sizeIn, ahead, shift}
+use Rattle.tree_places.specs.Passes.{child, sizeIn, inFront, shift}
 use Rattle.tree_places.proofs.SubtreeLaws.{child-at, child-off, subtree-split, subtree-root}
 use Rattle.tree_places.proofs.SizeLaws.{child-later}
 
@@ -30,15 +30,15 @@ module _ {net : Network} {t : Tree} {order parents uplinks sizes heavy : List �
   abbrev o : Ordered net t order parents uplinks
   o = r .ordered
 
-  pub ahead-suc : (v i : ℕ) → 0 < i → ahead order parents sizes heavy v (suc i)
-      ≡ ahead order parents sizes heavy v i + only (eqb (entry parents (entry order i)) v && not (eqb (entry heavy v) (entry order i))) (entry sizes (entry order i))
-  unfolding ahead sumTo
-  ahead-suc v i z = rw (le-leb 1 i z)
+  pub inFront-suc : (v i : ℕ) → 0 < i → inFront order parents sizes heavy v (suc i)
+      ≡ inFront order parents sizes heavy v i + only (eqb (entry parents (entry order i)) v && not (eqb (entry heavy v) (entry order i))) (entry sizes (entry order i))
+  unfolding inFront sumTo
+  inFront-suc v i z = rw (le-leb 1 i z)
 
   -- none stands before its parent
-  pub ahead-none : (i : ℕ) → i < net .nodes → ahead order parents sizes heavy (entry order i) (suc i) ≡ 0
-  unfolding ahead
-  ahead-none i b = sum-zero (suc i) _ (λ j c. go j c (truth (child order parents (entry order i) j)))
+  pub inFront-none : (i : ℕ) → i < net .nodes → inFront order parents sizes heavy (entry order i) (suc i) ≡ 0
+  unfolding inFront
+  inFront-none i b = sum-zero (suc i) _ (λ j c. go j c (truth (child order parents (entry order i) j)))
     where
       go : (j : ℕ) → j < suc i → (child order parents (entry order i) j ≡ true) ⊎ (child order parents (entry order i) j ≡ false)
           → only (child order parents (entry order i) j && not (eqb (entry heavy (entry order i)) (entry order j))) (entry sizes (entry order j)) ≡ 0
@@ -49,11 +49,11 @@ module _ {net : Network} {t : Tree} {order parents uplinks sizes heavy : List �
           absurd (omega arith)
 
   -- one that is not the heaviest
-  ahead-child : (v i j : ℕ) → 0 < i → i < j → entry parents (entry order i) ≡ v → eqb (entry heavy v) (entry order i) ≡ false
-      → ahead order parents sizes heavy v i + entry sizes (entry order i) ≤ ahead order parents sizes heavy v j
-  unfolding ahead
-  ahead-child v i j z b q h =
-      let a = ahead-suc v i z in
+  inFront-child : (v i j : ℕ) → 0 < i → i < j → entry parents (entry order i) ≡ v → eqb (entry heavy v) (entry order i) ≡ false
+      → inFront order parents sizes heavy v i + entry sizes (entry order i) ≤ inFront order parents sizes heavy v j
+  unfolding inFront
+  inFront-child v i j z b q h =
+      let a = inFront-suc v i z in
       let c = sum-prefix (suc i) j (λ j. only (child order parents v j && not (eqb (entry heavy v) (entry order j))) (entry sizes (entry order j))) b in
       let d : only (eqb (entry parents (entry order i)) v && not (eqb (entry heavy v) (entry order i))) (entry sizes (entry order i)) ≡ entry sizes (entry order i) =
       rw (eq-eqb (entry parents (entry order i)) v q, h) in
@@ -65,8 +65,8 @@ module _ {net : Network} {t : Tree} {order parents uplinks sizes heavy : List �
       rw (ne-eqb (entry heavy v) 0 (λ k. not-root o j z b (sym e ∙ k)), e)
 
   -- a node, its heaviest child's subtree and the others'
-  pub sizes-split : (v : ℕ) → v < net .nodes → entry sizes v ≡ 1 + sizeIn sizes (entry heavy v) + ahead order parents sizes heavy v (net .nodes)
-  unfolding ahead
+  pub sizes-split : (v : ℕ) → v < net .nodes → entry sizes v ≡ 1 + sizeIn sizes (entry heavy v) + inFront order parents sizes heavy v (net .nodes)
+  unfolding inFront
   sizes-split v b = go (truth (eqb (entry heavy v) 0))
     where
       whole : ℕ → ℕ
@@ -125,13 +125,13 @@ module _ {net : Network} {t : Tree} {order parents uplinks sizes heavy : List �
       → 1 + shift order parents sizes heavy v j + entry sizes (entry order j) ≤ entry sizes v
   shift-inside v j z b p = go (truth (eqb (entry heavy v) (entry order j)))
     where
-      split : entry sizes v ≡ 1 + sizeIn sizes (entry heavy v) + ahead order parents sizes heavy v (net .nodes)
+      split : entry sizes v ≡ 1 + sizeIn sizes (entry heavy v) + inFront order parents sizes heavy v (net .nodes)
       split = sizes-split v (rw p at (parent-in o (entry order j) (o .listed .within j b) (not-root o j z b)))
 
       go : (eqb (entry heavy v) (entry order j) ≡ true) ⊎ (eqb (entry heavy v) (entry order j) ≡ false)
           → 1 + shift order parents sizes heavy v j + entry sizes (entry order j) ≤ entry sizes v
       go (inl q) = let a = split in let c = heaviest-is v j z b q in rw q (omega arith)
-      go (inr q) = let a = split in let c = ahead-child v j (net .nodes) z b p q in rw q (omega arith)
+      go (inr q) = let a = split in let c = inFront-child v j (net .nodes) z b p q in rw q (omega arith)
 
   -- two children of one node are apart
   pub shift-apart : (i j : ℕ) → 0 < i → i < j → j < net .nodes → (v : ℕ) → entry parents (entry order i) ≡ v → entry parents (entry order j) ≡ v
@@ -147,4 +147,4 @@ module _ {net : Network} {t : Tree} {order parents uplinks sizes heavy : List �
           let e = o .listed .once i j (omega arith) c (sym (eqb-true (entry heavy v) (entry order i) k) ∙ eqb-true (entry heavy v) (entry order j) n) in absurd (omega arith)
       go (inl k) (inr n) = let a = heaviest-is v i z (omega arith) k in inl (rw (k, n) (omega arith))
       go (inr k) (inl n) = let a = heaviest-is v j (omega arith) c n in inr (rw (k, n) (omega arith))
-      go (inr k) (inr n) = let a = ahead-child v i j z b p k in inl (rw (k, n) (omega arith))
+      go (inr k) (inr n) = let a = inFront-child v i j z b p k in inl (rw (k, n) (omega arith))

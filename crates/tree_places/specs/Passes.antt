@@ -4,7 +4,7 @@
 --   heavier s h x                 the one of the nodes h and x with the larger size, h if they are even; x where h is 0
 --   Heavy o p s h i               h has for each node the heaviest of its children before position i, 0 where it has none there
 --   sizeIn s h                    the size of the node h, 0 where h is 0, which stands for no child
---   ahead o p s h v i             the sizes of the children of v before position i, but for the heaviest
+--   inFront o p s h v i           the sizes of the children of v before position i, but for the heaviest
 --   shift o p s h v j             how far behind its first child's place v's child at position j stands
 --   seat h a f v x                the place for the child x of v, where v has its place in a and its first free place in f
 --   freed h s f v x               f when x has its places
@@ -49,13 +49,13 @@ pub record Heavy (order parents sizes heavy : List ℕ) (i : ℕ) : Type 0 where
 abbrev pub sizeIn : List ℕ → ℕ → ℕ
 sizeIn sizes h = cond (eqb h 0) 0 (entry sizes h)
 
-unfoldable pub ahead : List ℕ → List ℕ → List ℕ → List ℕ → ℕ → ℕ → ℕ
+unfoldable pub inFront : List ℕ → List ℕ → List ℕ → List ℕ → ℕ → ℕ → ℕ
 unfolding sumTo
-ahead order parents sizes heavy v i = sumTo i (λ j. only (child order parents v j && not (eqb (entry heavy v) (entry order j))) (entry sizes (entry order j)))
+inFront order parents sizes heavy v i = sumTo i (λ j. only (child order parents v j && not (eqb (entry heavy v) (entry order j))) (entry sizes (entry order j)))
 
 abbrev pub shift : List ℕ → List ℕ → List ℕ → List ℕ → ℕ → ℕ → ℕ
 shift order parents sizes heavy v j =
-    cond (eqb (entry heavy v) (entry order j)) 0 (sizeIn sizes (entry heavy v) + ahead order parents sizes heavy v j)
+    cond (eqb (entry heavy v) (entry order j)) 0 (sizeIn sizes (entry heavy v) + inFront order parents sizes heavy v j)
 
 abbrev pub seat : List ℕ → List ℕ → List ℕ → ℕ → ℕ → ℕ
 seat heavy place free v x = cond (eqb (entry heavy v) x) (entry place v + 1) (entry free v)
@@ -77,4 +77,4 @@ pub record Placing (net : Network) (order parents sizes heavy : List ℕ) (i : �
   pub room : (j : ℕ) → j < i → entry place (entry order j) + entry sizes (entry order j) ≤ net .nodes
   pub frees : (j : ℕ) → j < i
       → entry free (entry order j)
-      ≡ entry place (entry order j) + 1 + sizeIn sizes (entry heavy (entry order j)) + ahead order parents sizes heavy (entry order j) i
+      ≡ entry place (entry order j) + 1 + sizeIn sizes (entry heavy (entry order j)) + inFront order parents sizes heavy (entry order j) i

@@ -13,7 +13,7 @@ ghost use Rattle.arrays.specs.Marks.{marks};
 ghost use Rattle.sheet.specs.Bytes.{byteOf, fieldBytes};
 ghost use Rattle.sheet.specs.Sheet.{current};
 ghost use Rattle.sheet.specs.Areas.{sideLength, sideBytes, reportWidths, reportLength, written};
-ghost use Rattle.write_areas.specs.Fields.{fieldsOf};
+ghost use Rattle.write_areas.specs.ReportFields.{valuesOf};
 
 // What a report has for the second link of a single one.
 pub const NO_SECOND: u16 = 65535;
@@ -60,7 +60,7 @@ pub fn write_side(area: &mut [u8], side: &[u8; MOST_NODES])
 // Writes a report.
 pub fn write_report(area: &mut [u8], r: Report)
     requires { ⌜ reportLength current ≤ length (now area) ⌝ }
-    ensures { λ _. ⌜ now (area .exit) ≡ written (fieldBytes (reportWidths current) (fieldsOf r)) (now (area .entry)) ⌝ }
+    ensures { λ _. ⌜ now (area .exit) ≡ written (fieldBytes (reportWidths current) (valuesOf r)) (now (area .entry)) ⌝ }
 {
     area[0] = r.verdict;
     area[1] = r.tree;
