@@ -51,7 +51,7 @@ module _ (map : Bytes) (nodes links : ℕ) where
 
 -- ---- the map as a slice
 
-pub mapBit-take : (n : ℕ) (bs : Bytes) (k : ℕ) → k < 8 * n → mapBit (take n bs) k ≡ mapBit bs k
+mapBit-take : (n : ℕ) (bs : Bytes) (k : ℕ) → k < 8 * n → mapBit (take n bs) k ≡ mapBit bs k
 mapBit-take n bs k h = rw (getD-take n bs (k / 8) 0 (omega arith))
 
 mapChecks-take : (nodes links : ℕ) (bs : Bytes) → mapChecks nodes links (take (mapLength links) bs) ≡ mapChecks nodes links bs

@@ -100,6 +100,7 @@ pub fn read_tree(
     if s.len() - at < size {
         return Step::Refused(refusals::CUT_OFF_TREE);
     }
+    let end = at + size;
     let map = tree_map(s, at, links);
     let n = map_refusal(map, nodes, links);
     if n != 0 {
@@ -108,7 +109,7 @@ pub fn read_tree(
     let grown = grow_tree(map, nodes, links, ends);
     let joined = grown.joined;
     if joined {
-        Step::End(at + size)
+        Step::End(end)
     } else {
         Step::Refused(refusals::NOT_JOINED)
     }

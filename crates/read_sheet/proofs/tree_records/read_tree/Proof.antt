@@ -35,6 +35,9 @@ returns c =
     let a = c .before .before .before .args in
     record { says = λ net h n. cut-off-at net (a .s .now) (a .at) (omega (arith, c .before .tree-length .ensures)); ends-at = omega arith }
 
+add-end : tie.Need-add-end
+add-end c = omega (arith, c .before .before .before .pre .inside, c .if1 .left)
+
 tree-map-requires : tie.Need-tree-map-requires
 tree-map-requires c κs =
     let s = c .before .before .before in
@@ -105,9 +108,6 @@ module _ (c : tie.After-grow-tree) (net : Network) (h : Held net (firstEnds (sta
       let a = start (taken c) .args in
       c .grow-tree .ensures net (treeIn net (drop (a .at) (a .s .now))) h n (members (taken c) net n) .joined
 
-add-t15 : tie.Need-add-t15
-add-t15 c = let b = taken (c .before) in omega (arith, whole b, b .before .before .tree-length .ensures)
-
 returns-3 : tie.Need-returns-3
 returns-3 c =
     let b = taken (c .before) in
@@ -136,10 +136,10 @@ read-tree-spec =
     tree-length-requires
     sub-if1
     returns
+    add-end
     tree-map-requires
     map-refusal-requires
     returns-2
     grow-tree-requires
-    add-t15
     returns-3
     returns-4)
