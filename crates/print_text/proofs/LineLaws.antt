@@ -61,3 +61,7 @@ put-front {old} {new} {text} {end} {most} h m =
     let e : end ≡ length text = h .put .end-is ∙ zero-add (length text) in
     let b = h .few in
     ap₂ take e (h .put .new-is ∙ sets-eq text old 0 (omega arith)) ∙ take-at text (drop (0 + length text) old) (length text) refl
+
+-- and it reaches to where the text ends
+pub front-length : {old new text : Text} {end most : ℕ} → PutIn most old 0 text new end → most ≤ length old → end ≡ length (take end new)
+front-length {text = text} h m = h .put .end-is ∙ zero-add (length text) ∙ sym (ap (λ (t : Text). length t) (put-front h m))
