@@ -2,7 +2,7 @@
 --   treesFrom net k bs        the trees of the k records at the front of bs, each at its place behind the one before
 --   networkAt s es ws c p     the network that the arrays, of ends and of weights, and the tree records from position p of s on hold, with
 --                             the counts c
---   recordAt c p i            where the record of tree i stands, that of tree 0 standing at p
+--   recordAt m p i            where the record of tree i stands, for m links, that of tree 0 standing at p
 --   mapAt s p m               the link map, for m links, of the tree record that stands at p of s
 --   SheetHeld f s es ws c p   the records of all trees stand in s from p on, and the network that they and the arrays hold is one that a
 --                             sheet of the format f gives
@@ -25,13 +25,13 @@ networkAt s ends ws c p =
     let links : List Link = linksOf (c .links) (part ends 0) (part ends 1) ws in
     network (c .nodes) links (treesFrom (network (c .nodes) links []) (c .trees) (drop p s))
 
-abbrev pub recordAt : Counts → ℕ → ℕ → ℕ
-recordAt c p i = p + i * treeLength (c .links)
+abbrev pub recordAt : ℕ → ℕ → ℕ → ℕ
+recordAt links p i = p + i * treeLength links
 
 abbrev pub mapAt : Bytes → ℕ → ℕ → Bytes
 mapAt s p links = take (mapLength links) (drop (p + 4) s)
 
 pub record SheetHeld (f : Format) (s : Bytes) (ends : List (List ℕ)) (ws : List ℕ) (c : Counts) (p : ℕ) : Type 0 where
-  pub inside : recordAt c p (c .trees) ≤ length s
+  pub inside : recordAt (c .links) p (c .trees) ≤ length s
   pub accepted : Accepted f (networkAt s ends ws c p)
   pub arrays : LinkArrays ends ws

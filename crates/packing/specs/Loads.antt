@@ -24,11 +24,11 @@ use Rattle.cuts.specs.Bound.{load, shares, counted}
 use Rattle.arrays.specs.Lists.{entry}
 use Rattle.arrays.specs.Links.{Weighed}
 use Rattle.sheet.specs.Bytes.{Bytes, mapBit}
-use Rattle.sheet.specs.Sheet.{current, treeLength}
-use Rattle.arrays.specs.Records.{treesFrom}
+use Rattle.sheet.specs.Sheet.{current}
+use Rattle.arrays.specs.Records.{treesFrom, recordAt}
 
 pub record TreesThere (s : Bytes) (at links trees : ℕ) : Type 0 where
-  pub inside : at + trees * treeLength links ≤ length s
+  pub inside : recordAt links at trees ≤ length s
   pub few-links : links ≤ mostLinks
   pub few-trees : trees ≤ mostTrees
 

@@ -4,7 +4,7 @@
 --   TreesLast s r             the tree records reach to the end of s
 --   BodyReadable s c es ws    links and trees of the counts c can be read behind the header of s into these arrays
 --   SheetRead s es ws net r   r and the arrays say of s what its reading `net` says, and its tree records reach to its end
-use Prim.Native.Nat.{ℕ, _+_, _*_, _≤_, _<_}
+use Prim.Native.Nat.{ℕ, _≤_, _<_}
 use mathlib.Core.Path.{_≡_}
 use mathlib.Core.List.{List, []}
 use lib.ListN.{length}
@@ -12,10 +12,10 @@ use Rattle.cuts.specs.Network.{Network}
 use Rattle.cuts.specs.Limits.{mostNodes, mostLinks}
 use Rattle.sheet.specs.Bytes.{Bytes}
 use Rattle.sheet.specs.Reading.{Reading, accepted, refused}
-use Rattle.sheet.specs.Sheet.{Counts, headerLength, treeLength}
+use Rattle.sheet.specs.Sheet.{Counts, headerLength}
 use Rattle.read_header.specs.HeaderRead.{countsOf}
 use Rattle.arrays.specs.Links.{LinkArrays}
-use Rattle.arrays.specs.Records.{networkAt}
+use Rattle.arrays.specs.Records.{networkAt, recordAt}
 use Rattle.read_sheet.specs.declared.Outcome.{Outcome}
 use Rattle.read_sheet.specs.declared.Outcome.the-variants.{Read, Refused}
 
@@ -24,7 +24,7 @@ sheetSays s ends ws (Read c p) = accepted (networkAt s ends ws (countsOf c) p) [
 sheetSays s ends ws (Refused n) = refused n
 
 abbrev pub TreesLast : Bytes → Outcome → Type 0
-TreesLast s (Read c p) = p + c .trees * treeLength (c .links) ≡ length s
+TreesLast s (Read c p) = recordAt (c .links) p (c .trees) ≡ length s
 TreesLast s (Refused n) = Unit {0}
 
 pub record BodyReadable (s : Bytes) (c : Counts) (ends : List (List ℕ)) (weights : List ℕ) : Type 0 where

@@ -8,7 +8,7 @@
 --   TreesAhead s p n m es      p is a position of s, where tree records for known links may stand
 --   TreeRead s p n m es r      r says what the record at p is read as, for every network that es holds
 --   TreesRead s p n m k es r   r says the same of k records from p on
-use Prim.Native.Nat.{ℕ, _+_, _-_, _*_, _≤_, _<_}
+use Prim.Native.Nat.{ℕ, _+_, _-_, _≤_, _<_}
 use mathlib.Core.Path.{_≡_}
 use mathlib.Core.List.{List, []}
 use lib.ListN.{length, drop}
@@ -16,7 +16,7 @@ use Rattle.cuts.specs.Sums.{countTo}
 use Rattle.cuts.specs.Limits.{mostNodes, mostLinks}
 use Rattle.cuts.specs.Network.{Network, linkCount}
 use Rattle.arrays.specs.Links.{firstEnds, secondEnds, EndsKnown, Held}
-use Rattle.arrays.specs.Records.{treesFrom}
+use Rattle.arrays.specs.Records.{treesFrom, recordAt}
 use Rattle.sheet.specs.Bytes.{Bytes, mapBit}
 use Rattle.sheet.specs.Reading.{records}
 use Rattle.sheet.specs.Sheet.{mapLength, treeLength, treeIn, treeRecord}
@@ -26,7 +26,7 @@ use Rattle.format.specs.declared.Step.{Step}
 
 pub record PlaceFits (at links tree : ℕ) : Type 0 where
   pub few-links : links ≤ mostLinks
-  pub fits : at + tree * treeLength links < eightBytes
+  pub fits : recordAt links at tree < eightBytes
 
 pub record RecordWhole (s : Bytes) (at links : ℕ) : Type 0 where
   pub few-links : links ≤ mostLinks
@@ -60,4 +60,4 @@ pub record TreeRead (s : Bytes) (at nodes links : ℕ) (ends : List (List ℕ)) 
 pub record TreesRead (s : Bytes) (from nodes links trees : ℕ) (ends : List (List ℕ)) (r : Step) : Type 0 where
   pub says : (net : Network) → Held net (firstEnds ends) (secondEnds ends) nodes → linkCount net ≡ links
       → stepSays (treesFrom net trees (drop from s)) s r ≡ records (λ _. treeRecord net) trees [] (drop from s)
-  pub ends-at : EndsAt (from + trees * treeLength links) s r
+  pub ends-at : EndsAt (recordAt links from trees) s r

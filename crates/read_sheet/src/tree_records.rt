@@ -15,7 +15,7 @@ ghost use Rattle.cuts.specs.Sums.{table};
 ghost use Rattle.cuts.specs.Network.{Network, Tree, linkCount};
 ghost use Rattle.arrays.specs.Links.{firstEnds, secondEnds, Held};
 ghost use Rattle.arrays.specs.Grown.{GrownTree};
-ghost use Rattle.arrays.specs.Records.{mapAt};
+ghost use Rattle.arrays.specs.Records.{recordAt, mapAt};
 ghost use Rattle.sheet.specs.Bytes.{mapBit};
 ghost use Rattle.sheet.specs.Reading.{firstFailing};
 ghost use Rattle.sheet.specs.Sheet.{mapLength, treeLength, mapChecks};
@@ -43,7 +43,7 @@ pub fn tree_length(links: usize) -> usize
 // Where the record of a tree stands, of the tree records from a position on.
 pub fn record_at(at: usize, links: usize, tree: usize) -> usize
     requires { ⌜ PlaceFits at links tree ⌝ }
-    ensures { λ r. ⌜ r ≡ at + tree * treeLength links ⌝ }
+    ensures { λ r. ⌜ r ≡ recordAt links at tree ⌝ }
 {
     at + tree * tree_length(links)
 }

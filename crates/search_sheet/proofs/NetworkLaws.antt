@@ -92,7 +92,7 @@ module _ (s : Bytes) (ends : List (List ℕ)) (ws : List ℕ) (c : Counts) (at :
         }
 
     -- the record of each tree
-    pub record-held : (i : ℕ) → i < c .trees → RecordHeld s (recordAt c at i) c ends
+    pub record-held : (i : ℕ) → i < c .trees → RecordHeld s (recordAt (c .links) at i) c ends
     record-held i b = record {
       inside = record-inside at (c .trees) (treeLength (c .links)) (length s) i (h .inside) b;
       counted = networkAt-counted (h .accepted .sound) i b;

@@ -2,7 +2,7 @@
 -- with as many links, and no load is past its link's weight; or the run ended at the tree before i, which would load a link past its
 -- weight, and they are those of the trees before that. A turn tests the next record, whose map is a slice of the sheet. No sum grows
 -- past 32 shares, each below 2^32. Assumes nothing.
-use Prim.Native.Nat.{ℕ, _+_, _-_, _*_, _≤_, _<_}
+use Prim.Native.Nat.{ℕ, _+_, _-_, _≤_, _<_}
 use mathlib.Core.Path.{_≡_, refl, ap, _∙_, subst}
 use mathlib.Core.Logic.{⊎-elim}
 use native.Mathlib.Nat.{zero-mul, suc-mul}
@@ -12,14 +12,14 @@ use lib.ListN.{length, drop, replicate}
 use Rattle.cuts.specs.Limits.{mostLinks}
 use Rattle.sheet.specs.Bytes.{Bytes, number}
 use Rattle.sheet.specs.Sheet.{treeLength}
-use Rattle.arrays.specs.Records.{mapAt}
+use Rattle.arrays.specs.Records.{recordAt, mapAt}
 use Rattle.read_sheet.proofs.TreeLaws.{mapAt-length}
 use Rattle.packing.proofs.ShareLaws.{Loaded, Progress, going, loaded-none, record-within, still-going, sum-small, all-counted, turn-counts, turn-ends}
 use Rattle.packing.proofs.count_trees.Statement.{statement}
 use Rattle.packing.proofs.count_trees.Tie as tie
 
 abbrev Inv-loop : tie.InvT-loop
-Inv-loop loads₀ s at weights links trees sum₀ stop₀ i₀ loads sum stop i = Progress s weights at links trees loads sum (at + i * treeLength links) stop i
+Inv-loop loads₀ s at weights links trees sum₀ stop₀ i₀ loads sum stop i = Progress s weights at links trees loads sum (recordAt links at i) stop i
 
 abbrev μ-loop : tie.MeasureT-loop
 μ-loop loads₀ s at weights links trees sum₀ stop₀ i₀ loads sum stop i = stop - i
@@ -33,12 +33,12 @@ loop-holds c =
     let s = c .before in
     let a = s .args in
     let first = loaded-none (a .s .now) (a .weights .now) (a .at) (a .c .links) mostLinks refl (s .pre .trees-there .few-links) in
-    let here : a .at ≡ a .at + 0 * treeLength (a .c .links) = omega (arith, zero-mul (treeLength (a .c .links))) in
+    let here : a .at ≡ recordAt (a .c .links) (a .at) 0 = omega (arith, zero-mul (treeLength (a .c .links))) in
     going (rw (s .pre .none) (subst (λ (p : ℕ). Loaded (a .s .now) (a .weights .now) (a .at) (a .c .links) (replicate mostLinks 0) 0 p 0) here first)) refl (omega arith)
 
 -- where the next record stands
 abbrev place : tie.At-loop Inv-loop μ-loop → ℕ
-place c = let a = start c .args in a .at + c .loop .i * treeLength (a .c .links)
+place c = let a = start c .args in recordAt (a .c .links) (a .at) (c .loop .i)
 
 -- in the loop the trees so far count, and the next record ends within the sheet
 module _ (c : tie.In-loop Inv-loop μ-loop) where
@@ -112,7 +112,7 @@ loop-again c =
     let four = m .before .four in
     let is = four .ensures ∙ ap (λ (p : ℕ). number 4 (drop p (a .s .now))) (m .before .before .record-at .ensures) in
     let more : t .before .loop .i < a .c .trees = omega (arith, t .loop-test .taken, loaded t .1) in
-    let end = a .at + (t .before .loop .i + 1) * treeLength (a .c .links) in
+    let end = recordAt (a .c .links) (a .at) (t .before .loop .i + 1) in
     let behind : end ≡ place (t .before) + treeLength (a .c .links) = omega (arith, rw (← add-one (t .before .loop .i)) at (suc-mul (t .before .loop .i) (treeLength (a .c .links)))) in
     let tested = n .count-tree .ensures in
     ⊎-elim

@@ -22,7 +22,7 @@ abbrev start : tie.After-struct-known → tie.Start
 start c = c .before .before
 
 -- the record of the tree
-held : (c : tie.Start) → let a = c .args in RecordHeld (a .s .now) (recordAt (countsOf (a .c)) (a .at) (a .found .tree)) (countsOf (a .c)) (a .ends .now)
+held : (c : tie.Start) → let a = c .args in RecordHeld (a .s .now) (recordAt (a .c .links) (a .at) (a .found .tree)) (countsOf (a .c)) (a .ends .now)
 held c =
     let a = c .args in
     record-held (a .s .now) (a .ends .now) (c .pre .weights) (countsOf (a .c)) (a .at) (c .pre .held) (a .found .tree) (c .pre .listed)
@@ -48,7 +48,7 @@ returns c ws h t e fits =
     let s = start (r .before .before) in
     let a = s .args in
     let net : Network = networkAt (a .s .now) (a .ends .now) ws (countsOf (a .c)) (a .at) in
-    let u : Tree = treeIn net (drop (recordAt (countsOf (a .c)) (a .at) (a .found .tree)) (a .s .now)) in
+    let u : Tree = treeIn net (drop (recordAt (a .c .links) (a .at) (a .found .tree)) (a .s .now)) in
     let q : t ≡ u = e ∙ networkAt-tree (a .s .now) (a .ends .now) ws (countsOf (a .c)) (a .at) (a .found .tree) (s .pre .listed) in
     let sound = h .accepted .sound in
     let laid = networkAt-laid (a .s .now) (a .ends .now) ws (countsOf (a .c)) (a .at) sound in

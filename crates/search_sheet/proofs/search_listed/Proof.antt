@@ -47,7 +47,7 @@ module _ (c : tie.Start Inv-loop μ-loop) where
 
 -- the record of the tree to search
 held : (c : tie.In-loop Inv-loop μ-loop) → let a = start (c .before) .args in
-    RecordHeld (a .s .now) (recordAt (countsOf (a .c)) (a .at) (c .before .loop .i)) (countsOf (a .c)) (a .ends .now)
+    RecordHeld (a .s .now) (recordAt (a .c .links) (a .at) (c .before .loop .i)) (countsOf (a .c)) (a .ends .now)
 held c =
     let b = start (c .before) in
     let a = b .args in
