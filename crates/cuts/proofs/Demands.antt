@@ -97,7 +97,7 @@ crossings-some {net} {t} g s p r = go (crossings net t s) refl
     go zero e = let z = size-none net s (crossings-none g s r e) in let q = p .not-empty in absurd (omega arith)
 
 -- a handle's side is neither empty nor full
-handle-proper : {net : Network} {t : Tree} → Spanning net t → (h : Handle) → Fits net t h → Proper net (sideOf net t h)
+pub handle-proper : {net : Network} {t : Tree} → Spanning net t → (h : Handle) → Fits net t h → Proper net (sideOf net t h)
 handle-proper {net} {t} g h f =
     let r = sideOf-rootless g h f in
     record { sized = r .sized; not-empty = some (size net (sideOf net t h)) refl; not-full = unfold size in count-lacks (net .nodes) (flag (sideOf net t h)) 0 (g .linked .rooted) (r .without) }
@@ -217,13 +217,13 @@ module _ (net : Network) (v : Sound net) where
   -- ---- demand 3
 
   -- what agrees with the definition is proper, without the root, and weighs what is reported
-  agrees-proper : (a : Answer) → Demand2 net a → Proper net (a .best .side)
+  pub agrees-proper : (a : Answer) → Demand2 net a → Proper net (a .best .side)
   agrees-proper a d = rw (d .side-is) (handle-proper (v .spanning (a .best .tree) (d .tree-listed)) (a .best .handle) (d .links-fit))
 
-  agrees-rootless : (a : Answer) → Demand2 net a → Rootless net (a .best .side)
+  pub agrees-rootless : (a : Answer) → Demand2 net a → Rootless net (a .best .side)
   agrees-rootless a d = rw (d .side-is) (sideOf-rootless (v .spanning (a .best .tree) (d .tree-listed)) (a .best .handle) (d .links-fit))
 
-  agrees-weight : (a : Answer) → Demand2 net a → a .best .weight ≡ cutWeight net (a .best .side)
+  pub agrees-weight : (a : Answer) → Demand2 net a → a .best .weight ≡ cutWeight net (a .best .side)
   agrees-weight a d = d .weight-is ∙ weightOf-is net (treeAt net (a .best .tree)) (a .best .handle) ∙ ap (cutWeight net) (sym (d .side-is))
 
   -- a side that crosses at most two members of a tree is a candidate's of that tree

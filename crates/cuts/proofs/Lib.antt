@@ -11,6 +11,7 @@ pub mod LimitLaws
 pub mod Packing
 pub mod Least
 pub mod ThenLaws
+pub mod OrderLaws
 pub mod Handles
 pub mod Demands
 pub mod Sold

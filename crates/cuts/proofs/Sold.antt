@@ -9,11 +9,12 @@ use mathlib.Core.Logic.{_⊎_, inl, inr}
 use native.Mathlib.Omega.{arith}
 use Rattle.cuts.specs.Network.{Network}
 use Rattle.cuts.specs.Tree.{Sound}
-use Rattle.cuts.specs.Candidate.{Handle, one, two, Candidate, Rank, alike, fewerNodes, Sooner, Earlier, Precedes}
+use Rattle.cuts.specs.Candidate.{Candidate, Rank, alike, fewerNodes, Precedes}
 use Rattle.cuts.specs.Bound.{shares, Packed, Overloads, Counting, allOrNone, longestRun, CountedBy, counted, floor}
 use Rattle.cuts.specs.Answer.{Answer, certified, verdictOf, reported, judged, answer}
 use Rattle.cuts.proofs.CountedLaws.{counted-counts, counted-all}
 use Rattle.cuts.proofs.Least.{first-in}
+use Rattle.cuts.proofs.OrderLaws.{earlier-one-way}
 use Rattle.cuts.proofs.Demands.{ahead-weighing, least, reported-first, reported-precedes, verdict-tells}
 
 abbrev by : Counting → Rank → Network → Answer
@@ -62,21 +63,6 @@ module _ (rank : Rank) (net : Network) where
       verdict-tells (tolerant .floor) w .1 (unfold floor in omega arith)
 
 -- ---- F-6
-
-sooner-one-way : (g h : Handle) → Sooner g h → Sooner h g → ⊥
-sooner-one-way (one e) (one f) l m = omega arith
-sooner-one-way (one e) (two f g) l m = omega arith
-sooner-one-way (two e f) (one g) l m = omega arith
-sooner-one-way (two e f) (two g h) (inl l) (inl m) = omega arith
-sooner-one-way (two e f) (two g h) (inl l) (inr m) = omega (arith, m .0)
-sooner-one-way (two e f) (two g h) (inr l) (inl m) = omega (arith, l .0)
-sooner-one-way (two e f) (two g h) (inr l) (inr m) = omega (arith, l .1, m .1)
-
-earlier-one-way : (c d : Candidate) → Earlier c d → Earlier d c → ⊥
-earlier-one-way c d (inl l) (inl m) = omega arith
-earlier-one-way c d (inl l) (inr m) = omega (arith, m .0)
-earlier-one-way c d (inr l) (inl m) = omega (arith, l .0)
-earlier-one-way c d (inr l) (inr m) = sooner-one-way (c .handle) (d .handle) (l .1) (m .1)
 
 module _ (net : Network) (v : Sound net) where
   weight-least : (rank other : Rank) → reported rank net .weight ≤ reported other net .weight

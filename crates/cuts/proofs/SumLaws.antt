@@ -3,16 +3,17 @@
 use Prim.Native.Nat.{ℕ, zero, suc, _+_, _*_, _≤_, _<_}
 use mathlib.Core.Path.{_≡_, refl, sym, ap, ap₂, _∙_, subst}
 use mathlib.Core.Logic.{_⊎_, inl, inr}
-use mathlib.Core.Bool.{Bool, true, false, _&&_, _||_, not, and-true, and-eq-true-iff, or-false}
-use mathlib.Core.List.{List, [], _∷_, _++_}
+use mathlib.Core.Bool.{Bool, true, false, _&&_, _||_, not, cond, and-true, and-eq-true-iff, or-false}
+use mathlib.Core.List.{List, [], _∷_, _++_, append-nil}
 use native.Mathlib.Nat.{eq-or-lt-of-le, le-of-suc-le-suc, not-suc-le-zero}
 use native.Mathlib.Decide.{decLt}
+use native.Mathlib.Numerals.{add-one}
 use native.Mathlib.Omega.{arith}
 use lib.ListN.{length, getD, set, take, length-append, List·getD-append}
-use lib.Seq.{getD-at, take-all, take-append-le}
+use lib.Seq.{getD-at, getD-append-seam, take-all, take-append-le}
 use lib.Dec.{eqb, eqb·zero-suc, eqb·suc-zero, eqb·suc-suc}
 use borrow.Author.Tests.{eqb-true, eqb-false, eq-eqb, ne-eqb}
-use Rattle.cuts.specs.Sums.{sumTo, only, anyTo, allTo, table, countTo}
+use Rattle.cuts.specs.Sums.{sumTo, only, anyTo, allTo, table, select, countTo}
 use Rattle.cuts.proofs.FlagLaws.{clash, truth, either, or-left, or-right}
 
 -- ---- what holds below suc n
@@ -108,6 +109,11 @@ sum-prefix k (suc m) f b = go (sum-prefix k m f) (eq-or-lt-of-le b)
     go : (k ≤ m → sumTo k f ≤ sumTo m f) → (k ≡ suc m) ⊎ (k < suc m) → sumTo k f ≤ sumTo m f + f m
     go r (inl q) = rw q (omega arith)
     go r (inr l) = let a = r (omega arith) in omega arith
+
+pub sum-append : (m n : ℕ) (f : ℕ → ℕ) → sumTo (m + n) f ≡ sumTo m f + sumTo n (λ i. f (m + i))
+unfolding sumTo
+sum-append m zero f = let e : m + 0 ≡ m = omega arith in rw e (omega arith)
+sum-append m (suc n) f = let e : m + suc n ≡ suc (m + n) = omega arith in let r = sum-append m n f in rw e (omega arith)
 
 pub sum-swap : (n m : ℕ) (f : ℕ → ℕ → ℕ) → sumTo n (λ i. sumTo m (f i)) ≡ sumTo m (λ j. sumTo n (λ i. f i j))
 unfolding sumTo
@@ -317,6 +323,23 @@ table-at d zero f = λ x b. absurd (not-suc-le-zero b)
 table-at d (suc n) f = all-suc (λ x. getD (table n f ++ f n ∷ []) x d ≡ f x) n
     (λ x b. List·getD-append (table n f) (f n ∷ []) d x (rw (table-length n f) b) ∙ table-at d n f x b)
     (getD-at (table n f) (f n) [] d n (table-length n f))
+
+-- of the numbers selected, those that pass a second test
+pub select-count : (n : ℕ) (f g : ℕ → Bool) → countTo (length (select n f)) (λ r. g (getD (select n f) r 0)) ≡ countTo n (λ k. f k && g k)
+unfolding select sumTo
+select-count zero f g = refl
+select-count (suc n) f g = go (f n) (select-count n f g)
+  where
+    go : (b : Bool) → countTo (length (select n f)) (λ r. g (getD (select n f) r 0)) ≡ countTo n (λ k. f k && g k)
+        → countTo (length (select n f ++ cond b (n ∷ []) [])) (λ r. g (getD (select n f ++ cond b (n ∷ []) []) r 0))
+        ≡ countTo n (λ k. f k && g k) + only (b && g n) 1
+    go true h =
+        let l : length (select n f ++ n ∷ []) ≡ suc (length (select n f)) = length-append (select n f) (n ∷ []) ∙ add-one (length (select n f)) in
+        ap (λ (m : ℕ). countTo m (λ r. g (getD (select n f ++ n ∷ []) r 0))) l
+        ∙ ap₂ _+_
+        (sum-congr (length (select n f)) _ _ (λ r b. ap (λ (x : ℕ). only (g x) 1) (List·getD-append (select n f) (n ∷ []) 0 r b)) ∙ h)
+        (ap (λ (x : ℕ). only (g x) 1) (getD-append-seam (select n f) n [] 0))
+    go false h = rw (append-nil (select n f)) (let e = h in omega arith)
 
 pub cleared-at : (l : List Bool) (e k : ℕ) → getD (set l e false) k false ≡ (getD l k false && not (eqb e k))
 cleared-at [] e k = refl
