@@ -1,0 +1,4 @@
+pub mod Picks
+pub mod Listing
+pub mod Rounds
+pub mod ListArea

@@ -1,0 +1,67 @@
+-- Every side of the reported weight that crosses at most two links of some tree, each once (document 02, F-5), and what
+-- is owed of such a list, which may be any. Assumes nothing.
+--   sameFlags r s       r and s are the same side
+--   weighing w c        the candidate c weighs w
+--   inOrder k net       the candidates of the reported weight in the order of candidates: by the rank k, below the number
+--                       of nodes, then as they stand among all candidates
+--   listed k net        the sides of these candidates, each once, where the order meets it first
+--   Weak net w s        s is a proper side without the root that weighs w and crosses at most two members of some tree:
+--                       document 02's weak spot
+--   Opens k net c       c is the first of all candidates of its side, in the order by the rank k
+--   OwedList k net ss   what is owed of the list of sides ss, in that order
+use Prim.Native.Nat.{ℕ, _<_}
+use mathlib.Core.Path.{_≡_}
+use mathlib.Core.Logic.{_⊎_, _↔_}
+use mathlib.Core.Bool.{Bool, true, false, _&&_, Bool·beq}
+use mathlib.Core.List.{List, [], _∷_, map, List·Memᴰ}
+use lib.ListN.{length, getD}
+use lib.Dec.{eqb}
+use Rattle.cuts.specs.Network.{Network, treeAt}
+use Rattle.cuts.specs.Cut.{Side, Respects, Proper, Rootless, cutWeight}
+use Rattle.cuts.specs.Paths.{Distinct}
+use Rattle.cuts.specs.Candidate.{Candidate, Rank, Precedes, candidates}
+use Rattle.cuts.specs.Answer.{reported}
+use Rattle.listing.specs.Picks.{keep, ranked, fresh, once}
+
+unfoldable pub sameFlags : Side → Side → Bool
+sameFlags [] [] = true
+sameFlags [] (b ∷ s) = false
+sameFlags (a ∷ r) [] = false
+sameFlags (a ∷ r) (b ∷ s) = Bool·beq a b && sameFlags r s
+
+abbrev pub weighing : ℕ → Candidate → Bool
+weighing w c = eqb (c .weight) w
+
+unfoldable pub inOrder : Rank → Network → List Candidate
+unfolding ranked keep candidates reported
+inOrder rank net = ranked (net .nodes) rank (keep (weighing (reported rank net .weight)) (candidates net))
+
+unfoldable pub listed : Rank → Network → List Side
+unfolding fresh sameFlags inOrder
+listed rank net = once sameFlags (map (λ c. c .side) (inOrder rank net))
+
+-- ---- what is owed
+
+pub record Weak (net : Network) (w : ℕ) (s : Side) : Type 0 where
+  pub proper : Proper net s
+  pub rootless : Rootless net s
+  pub weighs : cutWeight net s ≡ w
+  pub respects : (i : ℕ) × (i < length (net .trees)) × Respects net (treeAt net i) s
+
+pub record Opens (rank : Rank) (net : Network) (c : Candidate) : Type 0 where
+  pub listed : List·Memᴰ c (candidates net)
+  pub first : (d : Candidate) → List·Memᴰ d (candidates net) → d .side ≡ c .side → (d ≡ c) ⊎ Precedes rank c d
+
+pub record OwedList (rank : Rank) (net : Network) (ss : List Side) : Type 0 where
+  -- F-5: "every side of the reported weight that crosses at most two links of some tree"; "No listed side holds node 0"
+  pub holds : (s : Side) → List·Memᴰ s ss ↔ Weak net (reported rank net .weight) s
+  -- "each once"
+  pub once : Distinct ss
+  -- "A side reached from two trees stands where the order of document 01 meets it first"; F-6: "The list of F-5
+  -- follows it"
+  pub met : (i : ℕ) → i < length ss → (c : Candidate) × Opens rank net c × (c .side ≡ getD ss i [])
+  pub in-order : (i j : ℕ) → i < j → j < length ss → (c d : Candidate) → Opens rank net c → c .side ≡ getD ss i []
+      → Opens rank net d → d .side ≡ getD ss j [] → Precedes rank c d
+  -- "The number written equals the number of such sides by definition": that of any list that holds each of them once
+  pub number : (rs : List Side) → Distinct rs
+      → ((s : Side) → List·Memᴰ s rs ↔ Weak net (reported rank net .weight) s) → length ss ≡ length rs
