@@ -1,6 +1,9 @@
 -- Sides of one or two links of a tree, from the places and the stops that are kept of it. Assumes nothing.
+--   InTree nodes p                p is a place behind the root's
 --   OnePlace b u                  the stops b are known, and u is a place
 --   TwoPlaces b u v               the stops b are known, and u and v are places, u before v
+--   EitherPlaces b u v            the stops b are known, and u and v are places
+--   EitherCount b u v r           r is the number of nodes in the side of the links at the places u and v, in either order
 --   SideCount b u v r             r is the number of nodes in the side of the links at the places u and v, of any tree kept with the stops b
 --   StandsAt nodes l k p          p is a place behind the root's, and the links l have the link k there
 --   PlaceFound nodes l k r        so it is of r where k is a member of a tree of so many nodes, kept with the links l; whatever k is, r is a
@@ -24,6 +27,10 @@ use Rattle.arrays.specs.Kept.{within, LinksAt, Kept}
 use Rattle.tree_places.specs.Places.{StopsKnown}
 use Rattle.search_order.specs.Visits.{handleAt}
 
+pub record InTree (nodes p : ℕ) : Type 0 where
+  pub behind : 0 < p
+  pub within : p < nodes
+
 -- ---- counts
 
 pub record OnePlace (stops : List ℕ) (u : ℕ) : Type 0 where
@@ -38,6 +45,16 @@ pub record TwoPlaces (stops : List ℕ) (u v : ℕ) : Type 0 where
 abbrev pub SideCount : List ℕ → ℕ → ℕ → ℕ → Type 0
 SideCount stops u v r =
     (net : Network) (t : Tree) (place node links : List ℕ) → Kept net t place node stops links → 0 < u → v < net .nodes
+    → r ≡ size net (sideOf net t (handleAt links u v))
+
+pub record EitherPlaces (stops : List ℕ) (u v : ℕ) : Type 0 where
+  pub stops-known : StopsKnown stops
+  pub place : u < mostNodes
+  pub other-place : v < mostNodes
+
+abbrev pub EitherCount : List ℕ → ℕ → ℕ → ℕ → Type 0
+EitherCount stops u v r =
+    (net : Network) (t : Tree) (place node links : List ℕ) → Kept net t place node stops links → InTree (net .nodes) u → InTree (net .nodes) v
     → r ≡ size net (sideOf net t (handleAt links u v))
 
 -- ---- marks

@@ -3,7 +3,7 @@
 use format::limits::MOST_NODES;
 use std::num::wrapping_add_u16;
 use std::num::wrapping_sub_u16;
-ghost use Rattle.tree_sides.specs.Sides.{OnePlace, TwoPlaces, SideCount};
+ghost use Rattle.tree_sides.specs.Sides.{OnePlace, TwoPlaces, EitherPlaces, SideCount, EitherCount};
 
 // The number of nodes below the link at the place `u`: those from its own place up to its stop.
 pub fn single_count(stops: &[u16; MOST_NODES], u: usize) -> u16
@@ -25,4 +25,18 @@ pub fn pair_count(stops: &[u16; MOST_NODES], u: usize, v: usize) -> u16
         return wrapping_sub_u16(of_u, of_v);
     }
     wrapping_add_u16(of_u, of_v)
+}
+
+// The number of nodes in the side of the link at the place `u` alone where `v` is equal to it, else of the links at both, in either order.
+pub fn side_count(stops: &[u16; MOST_NODES], u: usize, v: usize) -> u16
+    requires { ⌜ EitherPlaces (now stops) u v ⌝ }
+    ensures { λ r. ⌜ EitherCount (now (stops .entry)) u v r ⌝ }
+{
+    if u == v {
+        return single_count(stops, u);
+    }
+    if u < v {
+        return pair_count(stops, u, v);
+    }
+    pair_count(stops, v, u)
 }
