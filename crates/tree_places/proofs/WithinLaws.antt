@@ -3,7 +3,7 @@
 use Prim.Native.Nat.{ℕ, _+_, _≤_, _<_}
 use mathlib.Core.Path.{_≡_}
 use mathlib.Core.Logic.{_⊎_, inl, inr}
-use mathlib.Core.Bool.{true, false}
+use mathlib.Core.Bool.{true, false, xor}
 use native.Mathlib.Decide.{decLt}
 use native.Mathlib.Omega.{arith}
 use lib.Dec.{leb, ltb}
@@ -42,3 +42,13 @@ within-join u v s p w a b = go (decLt p v) (decLt p u) (decLt p s)
     go (yes c) (no d) _ = rw (within-in u s p (omega arith) (omega arith), within-in u v p (omega arith) c, within-before v s p c) (omega arith)
     go (no c) _ (yes e) = rw (within-in u s p (omega arith) e, within-behind u v p (omega arith), within-in v s p (omega arith) e) (omega arith)
     go (no c) _ (no e) = rw (within-behind u s p (omega arith), within-behind u v p (omega arith), within-behind v s p (omega arith))
+
+-- the places before its end, less those before its start
+pub within-xor : (from to p : ℕ) → from ≤ to → within from to p ≡ xor (ltb p to) (ltb p from)
+unfolding xor
+within-xor from to p l = go (decLt p from) (decLt p to)
+  where
+    go : Dec (p < from) → Dec (p < to) → within from to p ≡ xor (ltb p to) (ltb p from)
+    go (yes b) d = rw (lt-leb from p b, lt-ltb p to (omega arith), lt-ltb p from b)
+    go (no b) (yes d) = rw (le-leb from p (omega arith), lt-ltb p to d, le-ltb p from (omega arith))
+    go (no b) (no d) = rw (le-leb from p (omega arith), le-ltb p to (omega arith), le-ltb p from (omega arith))

@@ -1,0 +1,3 @@
+pub mod RowLaws
+pub mod StrikeLaws
+pub mod CrossLaws

@@ -1,0 +1,102 @@
+-- `tree_crossings::cell_crossings` meets its contract: a cell of one link has the other place's rows both as the first, which cancel.
+-- Assumes nothing.
+use Prim.Native.Nat.{_/_, _%_}
+use mathlib.Core.Path.{_∙_}
+use native.Mathlib.Omega.{arith}
+use borrow.Author.Needs.{needs}
+use borrow.Author.Tests.{eq-eqb, ne-eqb}
+use Rattle.cuts.specs.Limits.{mostNodes}
+use Rattle.arrays.specs.Lists.{entry}
+use Rattle.tree_crossings.specs.Strikes.{sideCrossings}
+use Rattle.tree_crossings.proofs.cell_crossings.Statement.{statement}
+use Rattle.tree_crossings.proofs.cell_crossings.Tie as tie
+
+shared-slice-read-u : tie.Need-shared-slice-read-u
+shared-slice-read-u c = search needs
+
+cast-u : tie.Need-cast-u
+cast-u c = let a = c .before .before .before .args in omega (arith, c .shared-slice-known3 .given (a .q / mostNodes))
+
+mul-to : tie.Need-mul-to
+mul-to c = let a = c .before .before .before .args in omega (arith, c .shared-slice-known3 .given (a .q / mostNodes))
+
+shared-slice-read-to : tie.Need-shared-slice-read-to
+shared-slice-read-to c = let a = c .before .before .before .before .args in omega (arith, c .before .shared-slice-known3 .given (a .q / mostNodes))
+
+cast-to : tie.Need-cast-to
+cast-to c = let a = c .before .before .before .before .args in omega (arith, c .shared-slice-known4 .given (entry (a .at .now) (a .q / mostNodes)))
+
+odd-count-requires : tie.Need-odd-count-requires
+odd-count-requires c κs =
+    let s = c .before .before .before .before .before in
+    let a = s .args in
+    let small = c .before .before .shared-slice-known3 .given (a .q / mostNodes) in
+    record {
+      first = omega (arith, s .pre .held .stops-known (entry (a .at .now) (a .q / mostNodes)) (omega arith));
+      second = omega arith;
+      third = omega arith;
+      fourth = omega arith;
+    }
+
+returns : tie.Need-returns
+unfolding sideCrossings
+returns c =
+    let a = c .before .before .before .before .before .before .args in
+    c .odd-count .ensures ∙ rw (eq-eqb (a .q / mostNodes) (a .q % mostNodes) (c .before .if1 .taken))
+
+shared-slice-read-v : tie.Need-shared-slice-read-v
+shared-slice-read-v c = search needs
+
+cast-v : tie.Need-cast-v
+cast-v c = let a = c .before .before .before .before .before .before .args in omega (arith, c .shared-slice-known5 .given (a .q % mostNodes))
+
+mul-end : tie.Need-mul-end
+mul-end c = let a = c .before .before .before .before .before .before .args in omega (arith, c .shared-slice-known5 .given (a .q % mostNodes))
+
+shared-slice-read-end : tie.Need-shared-slice-read-end
+shared-slice-read-end c =
+    let a = c .before .before .before .before .before .before .before .args in
+    omega (arith, c .before .shared-slice-known5 .given (a .q % mostNodes))
+
+cast-end : tie.Need-cast-end
+cast-end c =
+    let a = c .before .before .before .before .before .before .before .args in
+    omega (arith, c .shared-slice-known6 .given (entry (a .at .now) (a .q % mostNodes)))
+
+odd-count-requires-2 : tie.Need-odd-count-requires-2
+odd-count-requires-2 c κs =
+    let s = c .before .before .before .before .before .before .before in
+    let a = s .args in
+    let small = c .before .before .before .before .shared-slice-known3 .given (a .q / mostNodes) in
+    let low = c .before .shared-slice-known5 .given (a .q % mostNodes) in
+    record {
+      first = omega (arith, s .pre .held .stops-known (entry (a .at .now) (a .q / mostNodes)) (omega arith));
+      second = omega arith;
+      third = omega (arith, s .pre .held .stops-known (entry (a .at .now) (a .q % mostNodes)) (omega arith));
+      fourth = omega arith;
+    }
+
+returns-2 : tie.Need-returns-2
+unfolding sideCrossings
+returns-2 c =
+    let a = c .before .before .before .before .before .before .before .before .args in
+    c .odd-count2 .ensures ∙ rw (ne-eqb (a .q / mostNodes) (a .q % mostNodes) (c .before .before .before .if1 .left))
+
+pub cell-crossings-spec : {M : Type 1} → statement M
+cell-crossings-spec =
+    tie.close
+    (tie.spec
+    shared-slice-read-u
+    cast-u
+    mul-to
+    shared-slice-read-to
+    cast-to
+    odd-count-requires
+    returns
+    shared-slice-read-v
+    cast-v
+    mul-end
+    shared-slice-read-end
+    cast-end
+    odd-count-requires-2
+    returns-2)

@@ -1,0 +1,169 @@
+// The sides of one tree that cross at most two members of another, struck out of a table of its cells.
+use bit_table::clear_bits;
+use bit_table::flip_bit;
+use bit_table::next_bit;
+use format::limits::MOST_LINKS;
+use format::limits::MOST_NODES;
+use format::maps::list_members;
+use place_rows::ROW;
+use place_rows::ROWS;
+use place_rows::odd_word;
+use place_rows::sum_rows;
+use tree_ranks::Ranked;
+use tree_ranks::TABLE;
+ghost use mathlib.Core.Path.{_≡_};
+ghost use mathlib.Core.Bool.{Bool, _&&_, not};
+ghost use lib.Dec.{leb};
+ghost use Rattle.cuts.specs.Sums.{countTo, table as flagTable};
+ghost use Rattle.cuts.specs.Network.{Network, Tree, linkCount};
+ghost use Rattle.cuts.specs.Cut.{crossings};
+ghost use Rattle.cuts.specs.Candidate.{Handle, sideOf};
+ghost use Rattle.arrays.specs.Links.{firstEnds, secondEnds, Held};
+ghost use Rattle.sheet.specs.Bytes.{mapBit};
+ghost use Rattle.tree_ranks.specs.Ranks.{RankedTree};
+ghost use Rattle.bit_table.specs.Bits.{wordBits, wordBit};
+ghost use Rattle.bit_table.specs.Cells.{Tabled};
+ghost use Rattle.place_rows.specs.Rows.{FourRows};
+ghost use Rattle.tree_crossings.specs.Rows.{EndPlaced, PlaceOf, Placeable, EndsFlipped, EndsParted, oddCount};
+ghost use Rattle.tree_crossings.specs.Strikes.{CellThere, cellCrossings, CellsThere, Struck, Strikable};
+
+// The place of a link's end.
+fn place_of(ends: &[u8], place: &[u8], link: usize) -> usize
+    requires { ⌜ EndPlaced (now ends) (now place) link ⌝ }
+    ensures { λ r. ⌜ PlaceOf (now (ends .entry)) (now (place .entry)) link r ⌝ }
+{
+    place[ends[link] as usize] as usize
+}
+
+// Sets the bit of a member in the row behind the place of each end, but not where both have one place. No other is set.
+fn flip_ends(
+    rows: &mut [u64],
+    nodes: usize,
+    firsts: &[u8],
+    seconds: &[u8],
+    members: &[u16],
+    count: usize,
+    place: &[u8],
+)
+    requires { ⌜ Placeable (now rows) nodes (now firsts) (now seconds) (now members) count (now place) ⌝ }
+    ensures { λ _. ⌜ EndsFlipped (now (firsts .entry)) (now (seconds .entry)) (now (members .entry)) count
+        (now (place .entry)) (now (rows .exit)) ⌝ }
+{
+    clear_bits(rows);
+    let mut r = 0;
+    while r < count {
+        let link = members[r] as usize;
+        let first = place_of(firsts, place, link);
+        let second = place_of(seconds, place, link);
+        flip_bit(rows, MOST_NODES * (first + 1) + r);
+        flip_bit(rows, MOST_NODES * (second + 1) + r);
+        r += 1;
+    }
+}
+
+// Sets the bit of each member in the rows of the places that exactly one of its ends stands before, and no other bit.
+fn mark_rows(
+    rows: &mut [u64],
+    nodes: usize,
+    firsts: &[u8],
+    seconds: &[u8],
+    members: &[u16],
+    count: usize,
+    place: &[u8],
+)
+    requires { ⌜ Placeable (now rows) nodes (now firsts) (now seconds) (now members) count (now place) ⌝ }
+    ensures { λ _. ⌜ EndsParted (now (firsts .entry)) (now (seconds .entry)) (now (members .entry)) count
+        (now (place .entry)) (now (rows .exit)) ⌝ }
+{
+    flip_ends(rows, nodes, firsts, seconds, members, count, place);
+    sum_rows(rows);
+}
+
+// How many bits of a word are set.
+fn bits_set(word: u64) -> usize
+    ensures { λ r. ⌜ r ≡ countTo wordBits (wordBit word) ⌝ }
+{
+    u64::count_ones(word) as usize
+}
+
+// How many bits are set in an odd number of four rows.
+fn odd_count(rows: &[u64; ROWS], a: usize, b: usize, c: usize, d: usize) -> usize
+    requires { ⌜ FourRows a b c d ⌝ }
+    ensures { λ r. ⌜ r ≡ oddCount (now (rows .entry)) a b c d ⌝ }
+{
+    let mut sum = 0;
+    let mut j = 0;
+    while j < ROW {
+        sum += bits_set(odd_word(rows, a, b, c, d, j));
+        j += 1;
+    }
+    sum
+}
+
+// How many members cross the side of the cell at bit q. For the cell of one link the first row, which has no bit set,
+// stands for both rows of a second.
+fn cell_crossings(rows: &[u64; ROWS], stops: &[u16], at: &[u8], q: usize) -> usize
+    requires { ⌜ CellThere (now stops) (now at) q ⌝ }
+    ensures { λ r. ⌜ r ≡ cellCrossings (now (rows .entry)) (now (stops .entry)) (now (at .entry)) q ⌝ }
+{
+    let first = q / MOST_NODES;
+    let second = q % MOST_NODES;
+    let u = at[first] as usize;
+    let to = stops[u] as usize;
+    if first == second {
+        return odd_count(rows, to, u, 0, 0);
+    }
+    let v = at[second] as usize;
+    let end = stops[v] as usize;
+    odd_count(rows, to, u, end, v)
+}
+
+// Turns off the bits of the cells whose sides cross at most two members.
+fn strike(table: &mut [u64], rows: &[u64; ROWS], nodes: usize, stops: &[u16], at: &[u8])
+    requires { ⌜ CellsThere (now table) nodes (now stops) (now at) ⌝ }
+    ensures { λ _. ⌜ Struck nodes (now (rows .entry)) (now (stops .entry)) (now (at .entry))
+        (now (table .entry)) (now (table .exit)) ⌝ }
+{
+    let end = (nodes - 1) * MOST_NODES;
+    let mut q = next_bit(table, 0, end);
+    while q < end {
+        if cell_crossings(rows, stops, at, q) <= 2 {
+            flip_bit(table, q);
+        }
+        q = next_bit(table, q + 1, end);
+    }
+}
+
+// Strikes out of the table the sides that cross at most two members of the tree in a map.
+pub fn strike_tree(
+    table: &mut [u64; TABLE],
+    map: &[u8],
+    nodes: usize,
+    links: usize,
+    ends: &[[u8; MOST_LINKS]; 2],
+    r: Ranked,
+)
+    requires { ⌜ Strikable (now map) nodes links (now ends) r ⌝ }
+    ensures { λ _. ⌜ ((net : Network) (t t′ : Tree) (p : Handle → Bool)
+        → Held net (firstEnds (now (ends .entry))) (secondEnds (now (ends .entry))) nodes → linkCount net ≡ links
+        → t′ .members ≡ flagTable links (mapBit (now (map .entry)))
+        → RankedTree net t r → Tabled net t p (now (table .entry))
+        → Tabled net t (λ h. p h && not (leb (crossings net t′ (sideOf net t h)) 2)) (now (table .exit))) ⌝ }
+{
+    let mut members = [0u16; MOST_NODES];
+    let count = list_members(&mut members, map, links);
+    let place = r.place;
+    let mut rows = [0u64; ROWS];
+    mark_rows(
+        &mut rows,
+        nodes,
+        &ends[0],
+        &ends[1],
+        &members,
+        count,
+        &place,
+    );
+    let stops = r.stops;
+    let at = r.at;
+    strike(table, &rows, nodes, &stops, &at);
+}
