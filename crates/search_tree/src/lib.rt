@@ -33,7 +33,7 @@ ghost use Rattle.search_order.specs.Visits.{Reached};
 ghost use Rattle.search_tree.specs.Searching.{PlacesWeighable, BesideDegrees, RowFrom, RowAt, NextLight};
 
 // The degree of the node at each place, in its part of `figures`.
-fn weigh_places(figures: &mut [u64], node: &[u8], degrees: &[u64; MOST_NODES])
+pub fn weigh_places(figures: &mut [u64], node: &[u8], degrees: &[u64; MOST_NODES])
     requires { ⌜ PlacesWeighable (now figures) (now node) ⌝ }
     ensures { λ _. ⌜ ((p : ℕ) → p < mostNodes
         → entry (degreesIn (now (figures .exit))) p ≡ entry (now (degrees .entry)) (entry (now (node .entry)) p)) ⌝ }
@@ -43,7 +43,7 @@ fn weigh_places(figures: &mut [u64], node: &[u8], degrees: &[u64; MOST_NODES])
 }
 
 // The first place from `from` on whose link, with that at `u`, weighs no more than `limit`; `nodes` where there is none.
-fn next_light(
+pub fn next_light(
     figures: &[u64; FIGURES],
     nodes: usize,
     stops: &[u16; MOST_NODES],
