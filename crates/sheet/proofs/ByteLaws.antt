@@ -1,19 +1,20 @@
--- Numbers and flags written as bytes and read again, and numbers read at a position.
+-- Numbers and flags written as bytes and read again, numbers read at a position, and the bits of a number in its bytes.
 -- Assumes nothing.
 use Prim.Native.Nat.{ℕ, zero, suc, _+_, _*_, _/_, _%_, _^_, _<_}
-use mathlib.Core.Path.{_≡_, refl, ap, ap₂, _∙_}
+use mathlib.Core.Path.{_≡_, refl, sym, ap, ap₂, _∙_}
 use mathlib.Core.Bool.{Bool, true, false, Bool·beq}
 use mathlib.Core.List.{List, [], _∷_, _++_, append-assoc}
-use native.Mathlib.Nat.{add-zero, zero-add, suc-add, mul-assoc, pow-succ'}
+use native.Mathlib.Nat.{add-zero, zero-add, suc-add, mul-add, mul-assoc, pow-suc, pow-succ'}
 use native.Mathlib.Numerals.{one-add}
 use native.Mathlib.Omega.{arith}
 use lib.ListN.{length, getD, drop, List·getD-append}
-use lib.Seq.{drop-at, getD-drop, drop-drop}
+use lib.Seq.{drop-at, getD-drop, drop-drop, ext-getD}
+use lib.Pow.{shr-shr}
 use lib.Dec.{eqb}
-use Rattle.cuts.specs.Sums.{only, allTo, table}
+use Rattle.cuts.specs.Sums.{sumTo, only, allTo, table}
 use Rattle.cuts.specs.Network.{flag}
 use Rattle.cuts.proofs.FlagLaws.{flags-equal, one-table}
-use Rattle.cuts.proofs.SumLaws.{allTo-at, table-at, table-length}
+use Rattle.cuts.proofs.SumLaws.{sum-congr, allTo-at, table-at, table-length}
 use Rattle.sheet.specs.Bytes.{Bytes, number, bytesOf, fields, fieldBytes, bit, mapBit, byteOf}
 
 -- ---- numbers
@@ -96,3 +97,45 @@ mapBit-table n f rest k b =
   where
     byte : ℕ → ℕ
     byte j = byteOf (λ i. f (8 * j + i))
+
+-- ---- the bits of a number, byte by byte
+
+pub byteOf-congr : (f g : ℕ → Bool) → ((i : ℕ) → i < 8 → f i ≡ g i) → byteOf f ≡ byteOf g
+unfolding byteOf
+byteOf-congr f g h = sum-congr 8 _ _ (λ i b. ap (λ (c : Bool). only c (2 ^ i)) (h i b))
+
+-- a number is the sum of its lowest bits and of what is above them
+sum-bits : (n v : ℕ) → sumTo n (λ i. only (bit v i) (2 ^ i)) + 2 ^ n * (v / 2 ^ n) ≡ v
+unfolding sumTo
+sum-bits zero v = omega arith
+sum-bits (suc n) v =
+    let digit = only-digit (2 ^ n) (v / 2 ^ n) in
+    let rest = sum-bits n v in
+    let next : n + 1 ≡ suc n = omega arith in
+    let x : ℕ = v / 2 ^ n in
+    let above : v / 2 ^ suc n ≡ x / 2 = sym (shr-shr v n 1 ∙ ap (λ (k : ℕ). v / 2 ^ k) next) in
+    let split : 2 ^ n * x ≡ 2 ^ n * (x % 2) + 2 ^ n * (2 * (x / 2)) = ap (λ (y : ℕ). 2 ^ n * y) (omega arith) ∙ mul-add (2 ^ n) (x % 2) (2 * (x / 2)) in
+    let power : 2 ^ suc n * (v / 2 ^ suc n) ≡ 2 ^ n * (2 * (x / 2)) = ap₂ _*_ (pow-suc 2 n) above ∙ mul-assoc (2 ^ n) 2 (x / 2) in
+    omega arith
+
+byteOf-bits : (v : ℕ) → byteOf (λ i. bit v i) ≡ v % 256
+unfolding byteOf
+byteOf-bits v = let s = sum-bits 8 v in omega arith
+
+byte-at : (n v k : ℕ) → k < n → getD (bytesOf n v) k 0 ≡ v / 2 ^ (8 * k) % 256
+unfolding bytesOf
+byte-at zero v k b = absurd (omega arith)
+byte-at (suc n) v zero b = omega arith
+byte-at (suc n) v (suc k) b =
+    let e : 8 + 8 * k ≡ 8 * suc k = omega arith in
+    byte-at n (v / 256) k (omega arith) ∙ ap (λ (x : ℕ). x % 256) (shr-shr v 8 (8 * k) ∙ ap (λ (x : ℕ). v / 2 ^ x) e)
+
+pub bytesOf-bits : (n v : ℕ) → bytesOf n v ≡ table n (λ k. byteOf (λ i. bit v (8 * k + i)))
+bytesOf-bits n v =
+    ext-getD 0 (bytesOf n v) (table n byte) (bytesOf-length n v ∙ sym (table-length n byte))
+    (λ k b. let c : k < n = let l = bytesOf-length n v in omega arith in
+    byte-at n v k c ∙ sym (byteOf-bits (v / 2 ^ (8 * k)))
+    ∙ byteOf-congr _ _ (λ i d. ap (λ (x : ℕ). eqb (x % 2) 1) (shr-shr v (8 * k) i)) ∙ sym (table-at 0 n byte k c))
+  where
+    byte : ℕ → ℕ
+    byte k = byteOf (λ i. bit v (8 * k + i))
