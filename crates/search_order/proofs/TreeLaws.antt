@@ -9,10 +9,10 @@ use mathlib.Core.List.{List, [], _∷_, _++_, append-nil, append-assoc, List·Me
 use native.Mathlib.Numerals.{add-one}
 use native.Mathlib.Omega.{arith}
 use lib.ListN.{length, take}
-use lib.Seq.{take-suc, length-take-le}
+use lib.Seq.{take-suc, take-length, length-take-le}
 use Rattle.cuts.specs.First.{firstFrom}
 use Rattle.cuts.specs.Network.{Network, Tree, noTree, treeAt}
-use Rattle.cuts.specs.Candidate.{Handle, Fits, Candidate, candidate, candidatesFrom, handles, memberLinks, Earlier, Sooner}
+use Rattle.cuts.specs.Candidate.{Handle, Fits, Candidate, candidate, candidatesFrom, candidates, handles, memberLinks, Earlier, Sooner}
 use Rattle.cuts.proofs.ListLaws.{Each, each-map}
 use Rattle.cuts.proofs.Least.{Order}
 use Rattle.cuts.proofs.Handles.{handle-of, handles-order, members-rising}
@@ -68,7 +68,7 @@ candidatesFrom-append net i (t ∷ ts) us =
     ap (λ (cs : List Candidate). treeCandidates net i t ++ cs) (candidatesFrom-append net (suc i) ts us ∙ ap (λ (k : ℕ). candidatesFrom net (suc i) ts ++ candidatesFrom net k us) e)
     ∙ sym (append-assoc (treeCandidates net i t) (candidatesFrom net (suc i) ts) (candidatesFrom net (i + suc (length ts)) us))
 
-firstTrees-next : (net : Network) (i : ℕ) → i < length (net .trees) → firstTrees net (i + 1) ≡ firstTrees net i ++ treeCandidates net i (treeAt net i)
+pub firstTrees-next : (net : Network) (i : ℕ) → i < length (net .trees) → firstTrees net (i + 1) ≡ firstTrees net i ++ treeCandidates net i (treeAt net i)
 unfolding candidatesFrom
 firstTrees-next net i b =
     let t : Tree = treeAt net i in
@@ -77,6 +77,10 @@ firstTrees-next net i b =
     ∙ candidatesFrom-append net 0 (take i (net .trees)) (t ∷ [])
     ∙ ap (λ (k : ℕ). firstTrees net i ++ candidatesFrom net k (t ∷ [])) e
     ∙ ap (λ (cs : List Candidate). firstTrees net i ++ cs) (append-nil (treeCandidates net i t))
+
+pub firstTrees-all : (net : Network) (i : ℕ) → i ≡ length (net .trees) → firstTrees net i ≡ candidates net
+unfolding candidates
+firstTrees-all net i e = ap (candidatesFrom net 0) (ap (λ (k : ℕ). take k (net .trees)) e ∙ take-length (net .trees))
 
 module _ (net : Network) (c : Candidate) (i : ℕ) (b : i < length (net .trees)) (x : Candidate) where
   visited-in : Visited net c i x ⊎ List·Memᴰ x (treeCandidates net i (treeAt net i)) → Visited net c (i + 1) x

@@ -6,7 +6,7 @@ ghost use Rattle.cuts.specs.Candidate.{Candidate, fewerNodes, ahead};
 ghost use Rattle.search_order.specs.Choice.{rest, comesFirst, chosen, Says, shown, Paired, unfound};
 
 // More than any candidate weighs.
-const NO_WEIGHT: u64 = 18446744073709551615;
+pub const NO_WEIGHT: u64 = 18446744073709551615;
 
 // A candidate: the tree, its one or two links, which are equal where there is one, the weight and the number of nodes in the side.
 pub struct Found {

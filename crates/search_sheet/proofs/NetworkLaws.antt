@@ -7,7 +7,7 @@ use native.Mathlib.Omega.{arith}
 use lib.ListN.{length, drop}
 use lib.Seq.{drop-drop}
 use Rattle.cuts.specs.Sums.{countTo}
-use Rattle.cuts.specs.Network.{Link, Tree, noTree, linkAt, linkCount, treeAt}
+use Rattle.cuts.specs.Network.{Network, Link, Tree, noTree, linkAt, linkCount, treeAt}
 use Rattle.cuts.specs.Tree.{Spanning, Sound}
 use Rattle.cuts.specs.Limits.{mostLinks, mostTrees}
 use Rattle.cuts.proofs.SumLaws.{table-length, table-at}
@@ -15,13 +15,14 @@ use Rattle.arrays.specs.Lists.{entry, part}
 use Rattle.arrays.specs.Links.{Laid, linksOf}
 use Rattle.tree_growth.proofs.RunLaws.{held-ending}
 use Rattle.sheet.specs.Bytes.{Bytes, mapBit}
-use Rattle.sheet.specs.Sheet.{Format, Counts, treeLength, treeIn, network, Accepted}
+use Rattle.sheet.specs.Sheet.{Format, Counts, current, treeLength, treeIn, network, Accepted}
 use Rattle.sheet.proofs.Acceptance.{members-counted}
 use Rattle.read_links.proofs.LinksLaws.{linksOf-length, linksOf-at}
 use Rattle.arrays.specs.Records.{treesFrom, networkAt, recordAt, SheetHeld}
 use Rattle.read_sheet.specs.TreesRead.{LinksKnown}
 use Rattle.read_sheet.proofs.TreeLaws.{record-inside}
-use Rattle.search_sheet.specs.SheetTrees.{RecordHeld}
+use Rattle.search_tree.specs.Searching.{Indexable, LinksIndexed}
+use Rattle.search_sheet.specs.SheetTrees.{RecordHeld, SheetListed}
 
 -- which trees are listed does not matter to what a record says
 treeIn-any : (nodes : ℕ) (links : List Link) (ts us : List Tree) (bs : Bytes) → treeIn (network nodes links ts) bs ≡ treeIn (network nodes links us) bs
@@ -98,3 +99,20 @@ module _ (s : Bytes) (ends : List (List ℕ)) (ws : List ℕ) (c : Counts) (at :
       counted = networkAt-counted (h .accepted .sound) i b;
       links-known = links-known;
     }
+
+    -- the links can be listed by node
+    pub sheet-indexable : Indexable ends ws (c .nodes) (c .links)
+    sheet-indexable = record {
+      few-nodes = links-known .few-nodes;
+      few-links = links-known .few-links;
+      ends-known = links-known .known;
+      all-weights = h .arrays .weights-room;
+    }
+
+  -- and then they are
+  pub sheet-listed : SheetHeld current s ends ws c at → (lists degrees : List ℕ) → LinksIndexed ends ws lists degrees (c .nodes) (c .links)
+      → SheetListed s ends ws lists degrees c at
+  sheet-listed h lists degrees i =
+      let net : Network = networkAt s ends ws c at in
+      let laid = networkAt-laid (h .accepted .sound) in
+      record { held = h; indexed = i .indexed net laid (h .accepted .ends-differ); weighed = i .weighed net laid }

@@ -23,18 +23,23 @@ use Rattle.cuts.proofs.Least.{firstFrom-firstOf, firstFrom-append}
 use Rattle.cuts.proofs.Handles.{candidate-of, candidate-in}
 use Rattle.cuts.proofs.ThenLaws.{by-number-in}
 use Rattle.cuts.proofs.Demands.{ahead-weighing, some-candidate}
-use Rattle.search_order.specs.Choice.{Says, Prior, Visited, treeCandidates, unfound}
+use Rattle.search_order.specs.Choice.{Says, Prior, Visited, treeCandidates, noWeight, unfound}
 use Rattle.search_order.specs.declared.Found.{Found}
 use Rattle.search_order.proofs.TreeLaws.{prior-visited, visited-more}
 
 -- no candidate is as heavy as where a search starts
-ahead-unfound : (net : Network) → Light net → (c : Candidate) → List·Memᴰ c (candidates net) → ahead fewerNodes c unfound ≡ true
-unfolding ahead candidate
-ahead-unfound net l c m =
+pub candidate-light : (net : Network) → Light net → (c : Candidate) → List·Memᴰ c (candidates net) → c .weight < noWeight
+unfolding candidate
+candidate-light net l c m =
     let t : Tree = treeAt net (c .tree) in
     let e : c .weight ≡ cutWeight net (sideOf net t (c .handle)) = ap (λ (x : Candidate). x .weight) (candidate-of net c m .is) ∙ weightOf-is net t (c .handle) in
     let w = side-most net l (sideOf net t (c .handle)) in
-    by-number-in (λ c. c .weight) (λ c d. ltb (fewerNodes c) (fewerNodes d)) c unfound (inl (omega arith))
+    omega arith
+
+ahead-unfound : (net : Network) → Light net → (c : Candidate) → List·Memᴰ c (candidates net) → ahead fewerNodes c unfound ≡ true
+unfolding ahead
+ahead-unfound net l c m =
+    by-number-in (λ c. c .weight) (λ c d. ltb (fewerNodes c) (fewerNodes d)) c unfound (inl (candidate-light net l c m))
 
 -- those of one tree, then those of the trees behind it
 candidatesFrom-drop : (net : Network) (i : ℕ) → i < length (net .trees)

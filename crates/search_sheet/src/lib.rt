@@ -24,7 +24,7 @@ ghost use Rattle.read_header.specs.HeaderRead.{countsOf};
 ghost use Rattle.search_sheet.specs.SheetTrees.{RecordHeld, RecordPlaced, SheetListed, Markable, SideMarked};
 
 // The tree whose record stands at a position, by its places.
-fn place_record(s: &[u8], at: usize, c: Counts, ends: &[[u8; MOST_LINKS]; 2]) -> Places
+pub fn place_record(s: &[u8], at: usize, c: Counts, ends: &[[u8; MOST_LINKS]; 2]) -> Places
     requires { ⌜ RecordHeld (now s) at (countsOf c) (now ends) ⌝ }
     ensures { λ r. ⌜ RecordPlaced (now (s .entry)) at (countsOf c) (now (ends .entry)) r ⌝ }
 {
