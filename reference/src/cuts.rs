@@ -100,44 +100,53 @@ impl Order {
     }
 }
 
+/// Meets every candidate of a sound network with the nodes inside its side. Each tree of such a network joins all nodes.
+pub fn each_candidate(network: &Network, mut meet: impl FnMut(Candidate, &[bool])) {
+    let mut inside = vec![false; network.nodes];
+    for (tree, record) in network.trees.iter().enumerate() {
+        let steps = flood(network, record);
+        for (first, second) in singles_and_pairs(&record.members) {
+            mark_inside(&steps, first, second, &mut inside);
+            let weight = weigh(&network.links, &inside);
+            let nodes = inside.iter().filter(|&&inside| inside).count();
+            meet(Candidate { weight, nodes, tree, first, second }, &inside);
+        }
+    }
+}
+
 /// A candidate, and which nodes are inside its side.
 struct Found {
     candidate: Candidate,
     inside: Vec<bool>,
 }
 
-/// The first candidates of a network by either order.
+/// The first of the candidates met so far, by either order.
+#[derive(Default)]
 pub struct Firsts {
-    listed: Found,
-    fewer_nodes: Found,
+    listed: Option<Found>,
+    fewer_nodes: Option<Found>,
 }
 
 impl Firsts {
-    /// Searches a sound network once: it has a tree, and each tree joins all nodes.
+    /// The first candidates of a sound network.
     pub fn of(network: &Network) -> Firsts {
-        let (mut listed, mut fewer_nodes) = (None, None);
-        let mut inside = vec![false; network.nodes];
-        for (tree, record) in network.trees.iter().enumerate() {
-            let steps = flood(network, record);
-            for (first, second) in singles_and_pairs(&record.members) {
-                mark_inside(&steps, first, second, &mut inside);
-                let weight = weigh(&network.links, &inside);
-                let nodes = inside.iter().filter(|&&inside| inside).count();
-                let candidate = Candidate { weight, nodes, tree, first, second };
-                keep_first(Order::Listed, &mut listed, candidate, &inside);
-                keep_first(Order::FewerNodes, &mut fewer_nodes, candidate, &inside);
-            }
-        }
-        let first = |found: Option<Found>| found.expect("a sound network has a tree link");
-        Firsts { listed: first(listed), fewer_nodes: first(fewer_nodes) }
+        let mut firsts = Firsts::default();
+        each_candidate(network, |candidate, inside| firsts.meet(candidate, inside));
+        firsts
     }
 
-    /// The network's answer by those rules.
+    pub fn meet(&mut self, candidate: Candidate, inside: &[bool]) {
+        keep_first(Order::Listed, &mut self.listed, candidate, inside);
+        keep_first(Order::FewerNodes, &mut self.fewer_nodes, candidate, inside);
+    }
+
+    /// The answer by those rules of the network whose candidates were met.
     pub fn answer(&self, rules: Rules, network: &Network) -> Answer {
-        let Found { candidate, inside } = match rules.order {
+        let first = match rules.order {
             Order::Listed => &self.listed,
             Order::FewerNodes => &self.fewer_nodes,
         };
+        let Found { candidate, inside } = first.as_ref().expect("a sound network has a tree link");
         let floor = candidate.weight.min(three_shares(counted(rules.counting, network)));
         let verdict = if floor == candidate.weight { WHOLE } else { TREES_ONLY };
         let side = (0..network.nodes).filter(|&node| inside[node]).collect();

@@ -26,7 +26,7 @@ fn crossing_members(network: &Network, tree: &Tree, side: u32) -> Vec<usize> {
     tree.members.iter().copied().filter(|&member| crosses(network, side, member)).collect()
 }
 
-fn nodes_of(network: &Network, side: u32) -> Vec<usize> {
+pub fn nodes_of(network: &Network, side: u32) -> Vec<usize> {
     (0..network.nodes).filter(|&node| side >> node & 1 == 1).collect()
 }
 
@@ -35,10 +35,10 @@ fn node_count(side: u32) -> usize {
 }
 
 /// A side that a tree shows, named by the members that it crosses.
-type Shown = (Candidate, u32);
+pub type Shown = (Candidate, u32);
 
 /// Every shown side with its weight, once for each tree that shows it.
-fn shown(network: &Network) -> Vec<Shown> {
+pub fn shown(network: &Network) -> Vec<Shown> {
     let mut shown = Vec::new();
     for side in sides(network) {
         let weight = weigh(network, side);

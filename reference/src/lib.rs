@@ -9,6 +9,7 @@ pub mod every_side;
 pub mod explain;
 pub mod faults;
 pub mod generate;
+pub mod list;
 pub mod network;
 pub mod random;
 pub mod report;

@@ -19,13 +19,21 @@ pub fn outcome_of(reading: &Reading) -> Outcome {
     reading.as_ref().map(|contents| cuts::answer(&contents.network)).map_err(|refusal| *refusal)
 }
 
-/// The first 32 bytes of the side area.
-pub fn side_area(answer: &Answer) -> [u8; SIDE_BYTES] {
-    let mut area = [0; SIDE_BYTES];
-    for &node in &answer.side {
-        area[node / 8] |= 1 << (node % 8);
+/// A side as an area has it: node k is bit k mod 8 of byte k / 8.
+pub type Side = [u8; SIDE_BYTES];
+
+/// The bytes of the side with these nodes.
+pub fn side_bytes(nodes: impl IntoIterator<Item = usize>) -> Side {
+    let mut bytes = [0; SIDE_BYTES];
+    for node in nodes {
+        bytes[node / 8] |= 1 << (node % 8);
     }
-    area
+    bytes
+}
+
+/// The first 32 bytes of the side area.
+pub fn side_area(answer: &Answer) -> Side {
+    side_bytes(answer.side.iter().copied())
 }
 
 /// The first 24 bytes of the report area. The numbers of a sound network fit their fields.
