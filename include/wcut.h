@@ -1,9 +1,10 @@
 /*
  * The weakest-cut monitor: from a serialised network, the link sheet, to the lightest cut that crosses at most two links of some
- * listed spanning tree, and whether it is provably the lightest cut of the whole network. docs/ENTRY.md has the layouts and the cost.
+ * listed spanning tree, and whether it is provably the lightest cut of the whole network (wcut_report); and to every such cut of that
+ * weight (wcut_list). docs/ENTRY.md has the layouts and the cost.
  *
- * Link with libmonitor.a, which is for x86-64 and its System V calling convention; it needs memset and memcpy. The entry keeps no state,
- * allocates nothing, and takes WCUT_STACK_BYTES of stack.
+ * Link with libmonitor.a, which is for x86-64 and its System V calling convention; it needs memset and memcpy. The entries keep no state,
+ * allocate nothing, and take WCUT_STACK_BYTES and WCUT_LIST_STACK_BYTES of stack.
  */
 #ifndef WCUT_H
 #define WCUT_H
@@ -16,13 +17,15 @@ extern "C" {
 #endif
 
 /* Sizes. */
-#define WCUT_SIDE_BYTES 32       /* the side area: node k is bit k % 8 of byte k / 8 */
+#define WCUT_SIDE_BYTES 32       /* a side, in the side area and in a list: node k is bit k % 8 of byte k / 8 */
 #define WCUT_REPORT_BYTES 24     /* the report area, laid out as below */
 #define WCUT_LONGEST_SHEET 30853 /* a sheet of more bytes is refused */
-#define WCUT_STACK_BYTES 45088   /* what a call takes of the stack: measured on longest sheets (tools/bench --stack), not proved */
+#define WCUT_STACK_BYTES 45136   /* what a call takes of the stack: measured on longest sheets (tools/bench --stack), not proved */
+#define WCUT_LIST_STACK_BYTES 57584 /* the same of wcut_list */
 #define WCUT_MOST_NODES 256
 #define WCUT_MOST_LINKS 2048
 #define WCUT_MOST_TREES 32
+#define WCUT_MOST_SIDES 1044480 /* no list is longer: 32 trees of 256 nodes have so many single links and pairs */
 
 /* Where the fields of the report area start. All numbers have their lowest byte first. */
 #define WCUT_AT_VERDICT 0 /* 1 byte */
@@ -38,9 +41,9 @@ extern "C" {
 #define WCUT_NO_SECOND 65535      /* the cut crosses one tree link only */
 
 /*
- * What wcut_report returns: 0, or the first refusal that applies, in this order; within links and trees, record by record. A trunk number
- * is a field of its link. docs/REFUSALS.md has the same numbers, names and words; `make test` compares them. Units already sold give 2 only
- * below 16 bytes, and 8 to every map byte above 7.
+ * What the entries return: 0, or the first refusal that applies, in this order; within links and trees, record by record. A trunk number
+ * is a field of its link. wcut_report never returns 19, wcut_list never 1 or 2. docs/REFUSALS.md has the same numbers, names and words;
+ * `make test` compares them. Units already sold give 2 only below 16 bytes, and 8 to every map byte above 7.
  */
 #define WCUT_ACCEPTED 0
 #define WCUT_SHORT_SIDE 1    /* the side area has fewer than 32 bytes */
@@ -59,6 +62,7 @@ extern "C" {
 #define WCUT_MEMBER_COUNT 14 /* the ones in a link map are not the node count less 1 */
 #define WCUT_NOT_JOINED 15   /* the member links do not join every node to node 0 */
 #define WCUT_BYTES_LEFT 16   /* bytes follow the last tree */
+#define WCUT_SHORT_LIST 19   /* the area cannot hold every side of the list, at 32 bytes a side */
 
 /*
  * Reads the sheet, writes the first 32 bytes of the side area and the first 24 of the report area, and returns WCUT_ACCEPTED; or
@@ -74,6 +78,27 @@ extern "C" {
 uint32_t wcut_report(const uint8_t *sheet, size_t sheet_length,
                      uint8_t *side, size_t side_length,
                      uint8_t *report, size_t report_length);
+
+/*
+ * Reads the sheet and writes every side that weighs what wcut_report reports and crosses at most two links of some listed tree: each once,
+ * WCUT_SIDE_BYTES a side from the area's start, none with node 0. Fewer nodes come first, then the order of candidates decides as in the
+ * report, so the first is the reported side. Sets *count to their number and returns WCUT_ACCEPTED; or sets *count to 0, leaves the area
+ * as it was, and returns the sheet's refusal or, if there is none, WCUT_SHORT_LIST where the area cannot hold them all. Bytes behind
+ * the last side are never touched.
+ *
+ * With n nodes and t trees there are at most t n (n - 1) / 2 sides. A call takes less than four times as long as one of wcut_report where
+ * there are up to 1,000 of them, and time in proportion to their number where there are more.
+ *
+ * The caller's duties:
+ *   - each pointer is not null; sheet and sides point to as many bytes as the length behind each says, count to a number; those of the
+ *     area and the count are writable, and what the count holds does not matter;
+ *   - sheet, area and count do not overlap;
+ *   - nothing else reads or writes the area or the count, or writes the sheet, during the call;
+ *   - the stack has room for WCUT_LIST_STACK_BYTES.
+ */
+uint32_t wcut_list(const uint8_t *sheet, size_t sheet_length,
+                   uint8_t *sides, size_t sides_length,
+                   uint32_t *count);
 
 #ifdef __cplusplus
 }

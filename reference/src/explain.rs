@@ -1,41 +1,41 @@
-//! The report program's lines read back, and what they mean in plain words.
+//! The report program's lines read back, what they mean in plain words, and the lines of a list.
 
+mod cut;
 #[cfg(test)]
 mod tests;
+
+pub use cut::list_lines;
 
 use crate::cuts::{self, Answer, Candidate};
 use crate::network::{Link, Network};
 use crate::report;
 use crate::sheet::{Place, Refusal, LEAST_NODES, MOST_LINKS, MOST_NODES, MOST_TREES};
 
-/// How many nodes of a side a sentence names.
-const MOST_NAMED_NODES: usize = 12;
-
-/// What the refusal numbers mean, from 1 on, in the words of docs/REFUSALS.md and include/wcut.h. They are document 01's, with request
-/// F-2's for 2 and 11 and request F-9's for 8.
-const MEANINGS: [&str; 16] = [
-    "the side area has fewer than 32 bytes",
-    "the report area has fewer than 24 bytes",
-    "the sheet has fewer than 5 bytes",
-    "the node count is below 2 or above 256",
-    "the link count is below the node count less 1, or above 2,048",
-    "the tree count is 0 or above 32",
-    "no map byte is left for a link",
-    "a map byte exceeds 15, or link 0's map byte is neither 7 nor 15",
-    "the sheet ends before the last byte of a field whose bit stands",
-    "an end is not below the node count, or both ends are equal",
-    "never: every 4-byte weight is allowed; units already sold refuse one above 1,000,000",
-    "the sheet ends inside or before a tree record",
-    "a link map has a bit set from the link count up",
-    "the ones in a link map are not the node count less 1",
-    "the member links do not join every node to node 0",
-    "bytes follow the last tree",
+/// What the refusal numbers mean, in the words of docs/REFUSALS.md and include/wcut.h. They are document 01's, with request F-2's for 2
+/// and 11, request F-9's for 8 and request F-5's 19.
+const MEANINGS: [(u32, &str); 17] = [
+    (1, "the side area has fewer than 32 bytes"),
+    (2, "the report area has fewer than 24 bytes"),
+    (3, "the sheet has fewer than 5 bytes"),
+    (4, "the node count is below 2 or above 256"),
+    (5, "the link count is below the node count less 1, or above 2,048"),
+    (6, "the tree count is 0 or above 32"),
+    (7, "no map byte is left for a link"),
+    (8, "a map byte exceeds 15, or link 0's map byte is neither 7 nor 15"),
+    (9, "the sheet ends before the last byte of a field whose bit stands"),
+    (10, "an end is not below the node count, or both ends are equal"),
+    (11, "never: every 4-byte weight is allowed; units already sold refuse one above 1,000,000"),
+    (12, "the sheet ends inside or before a tree record"),
+    (13, "a link map has a bit set from the link count up"),
+    (14, "the ones in a link map are not the node count less 1"),
+    (15, "the member links do not join every node to node 0"),
+    (16, "bytes follow the last tree"),
+    (19, "the area cannot hold every side of the list, at 32 bytes a side"),
 ];
 
 /// What a refusal number means; none for a number that is no refusal.
 pub fn meaning(number: u32) -> Option<&'static str> {
-    let place = usize::try_from(number).ok()?.checked_sub(1)?;
-    MEANINGS.get(place).copied()
+    MEANINGS.iter().find(|(refusal, _)| *refusal == number).map(|(_, meaning)| *meaning)
 }
 
 /// What is wrong with a network whose sheet is refused, with the network's own numbers.
@@ -115,28 +115,21 @@ fn parse_answer(words: &[&str]) -> Option<Answer> {
     Some(Answer { verdict: verdict.parse().ok()?, floor: floor.parse().ok()?, candidate, side })
 }
 
-/// The numbers of the links with exactly one end in a side.
-fn crossing(network: &Network, side: &[usize]) -> Vec<usize> {
-    let crosses = |link: &Link| side.contains(&link.first) != side.contains(&link.second);
-    (0..network.links.len()).filter(|&link| crosses(&network.links[link])).collect()
-}
-
 /// Says in what an answer contradicts the network that it was given for, or itself.
 fn contradiction(network: &Network, answer: &Answer) -> Option<&'static str> {
     let Answer { verdict, floor, candidate, side } = answer;
-    let rising = side.windows(2).all(|pair| pair[0] < pair[1]);
-    if side.is_empty() || !rising || side[0] == 0 || side.iter().any(|&node| node >= network.nodes) {
+    if !cut::is_side(network, side) {
         return Some("the side is not some of the nodes behind node 0, rising");
     }
     let Some(tree) = network.trees.get(candidate.tree) else {
         return Some("the network has no such tree");
     };
-    let crossing = crossing(network, side);
+    let crossing = cut::crossing(network, side);
     let named = [candidate.first].into_iter().chain(candidate.second);
     if !named.eq(crossing.iter().copied().filter(|link| tree.members.contains(link))) {
         return Some("the links named are not those of the tree that cross the side");
     }
-    if crossing.iter().map(|&link| network.links[link].weight).sum::<u64>() != candidate.weight {
+    if cut::weight(network, &crossing) != candidate.weight {
         return Some("the links that cross the side have another weight");
     }
     let whole = *verdict == cuts::WHOLE && *floor == candidate.weight;
@@ -158,15 +151,17 @@ pub fn sentence(network: &Network, answer: &Answer) -> Result<String, &'static s
     }
     let Candidate { weight, tree, first, second, .. } = answer.candidate;
     let names = match second {
-        None => format!("Link {first} of tree {tree} names the cut"),
-        Some(second) => format!("Links {first} and {second} of tree {tree} name the cut"),
+        None => format!("link {first} of tree {tree} names it"),
+        Some(second) => format!("links {first} and {second} of tree {tree} name it"),
     };
-    let weighs = match crossing(network, &answer.side).len() {
-        1 => format!("the one link that it crosses weighs {weight}"),
-        _ => format!("the links that it crosses weigh {weight} together"),
+    let crossing = cut::crossing(network, &answer.side);
+    let weighs = match crossing.len() {
+        1 => format!("which weighs {weight}"),
+        _ => format!("which weigh {weight} together"),
     };
-    let severed = node_list(&answer.side);
-    Ok(format!("{names}: it severs {severed} from node 0, and {weighs}. {}", promise(network, answer)))
+    let (severed, crossed) = (cut::node_list(&answer.side), cut::link_list(network, &crossing));
+    let promise = promise(network, answer);
+    Ok(format!("The cut severs {severed} from node 0. It crosses {crossed}, {weighs}; {names}. {promise}"))
 }
 
 /// What the answer promises about all cuts of the network.
@@ -223,16 +218,5 @@ impl RunEnd {
         format!(
             "Tree {tree} would bring the load of link {link} to {load}, more than its weight of {weight}, so {counted}"
         )
-    }
-}
-
-/// `node 1`, `nodes 1 and 2`, and for many nodes the first ones and how many more there are.
-fn node_list(nodes: &[usize]) -> String {
-    let named: Vec<String> = nodes.iter().take(MOST_NAMED_NODES).map(usize::to_string).collect();
-    match (nodes.len() - named.len(), &named[..]) {
-        (0, [only]) => format!("node {only}"),
-        (0, [front @ .., last]) => format!("nodes {} and {last}", front.join(", ")),
-        (1, front) => format!("nodes {} and 1 more node", front.join(", ")),
-        (more, front) => format!("nodes {} and {more} more nodes", front.join(", ")),
     }
 }

@@ -32,8 +32,15 @@ fn report(name: &str, text: &str, commands: &str) -> (Option<i32>, String, Strin
 
 #[test]
 fn bad_arguments_give_the_usage() {
-    let bad: [&[&str]; 6] =
-        [&[], &["sheets"], &["sheet", "a.net", "b.net"], &["text", "a", "b"], &["report"], &["report", "program"]];
+    let bad: [&[&str]; 7] = [
+        &[],
+        &["sheets"],
+        &["sheet", "a.net", "b.net"],
+        &["text", "a", "b"],
+        &["report"],
+        &["report", "program"],
+        &["list", "a.net", "b.net"],
+    ];
     for arguments in bad {
         let (status, printed, errors) = network(arguments, b"");
         assert_eq!((status, printed.len()), (Some(2), 0), "{arguments:?}");
@@ -96,8 +103,9 @@ fn a_refused_sheet_has_no_text() {
 
 #[test]
 fn a_report_has_title_lines_and_meaning() {
-    let printed = "A triangle (triangle.net)\nanswer 2 5 5 0 0 - 1\nside 1\nLink 0 of tree 0 names the cut: it severs node 1 \
-                   from node 0, and the links that it crosses weigh 5 together. No cut of the whole network weighs less.\n";
+    let printed = "A triangle (triangle.net)\nanswer 2 5 5 0 0 - 1\nside 1\nThe cut severs node 1 from node 0. It crosses links 0 \
+                   (0-1:3) and 1 (1-2:2), which weigh 5 together; link 0 of tree 0 names it. No cut of the whole network weighs \
+                   less.\n";
     let program = "echo answer 2 5 5 0 0 - 1; echo side 1";
     assert_eq!(report("triangle.net", TRIANGLE, program), (Some(0), printed.to_string(), String::new()));
 }
@@ -164,4 +172,15 @@ fn a_fault_in_one_file_leaves_the_others_their_reports() {
         "\nsound.net\nrefused 4\nThe sheet is refused for line 1: the node count is 1, and the monitor takes 2 to \
                     256.\n";
     assert_eq!(String::from_utf8(printed).expect("text"), expected);
+}
+
+#[test]
+#[cfg(not(feature = "archive"))]
+fn a_command_without_the_archive_says_so() {
+    let (status, printed, errors) = network(&["list"], TRIANGLE.as_bytes());
+    assert_eq!((status, printed.len()), (Some(1), 0));
+    assert!(
+        errors.starts_with("standard input: the list: this command was built without the monitor's archive"),
+        "{errors}"
+    );
 }

@@ -44,3 +44,6 @@ pub const NOT_JOINED: u32 = 15;
 
 // Bytes follow the last tree.
 pub const BYTES_LEFT: u32 = 16;
+
+// The area cannot hold every side of the list, at 32 bytes a side.
+pub const SHORT_LIST: u32 = 19;

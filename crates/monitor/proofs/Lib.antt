@@ -1,2 +1,3 @@
 pub mod EntryLaws
+pub mod ListLaws
 pub mod Sold

@@ -1,4 +1,7 @@
 use super::*;
+use crate::generate::{self, FEATURES};
+use crate::random::Random;
+use crate::report::Side;
 use crate::text;
 
 const RING: &str = "nodes 4\nlink 0-1:1\nlink 1-2:1\nlink 2-3:1\nlink 3-0:1\n";
@@ -20,14 +23,14 @@ fn assert_sentence(text: &str, lines: &str, expected: Result<&str, &'static str>
 }
 
 #[test]
-fn refusal_numbers_are_1_to_16() {
+fn refusal_numbers_are_1_to_16_and_19() {
     assert_eq!(meaning(0), None);
     assert_eq!(meaning(1), Some("the side area has fewer than 32 bytes"));
     assert_eq!(meaning(8), Some("a map byte exceeds 15, or link 0's map byte is neither 7 nor 15"));
     assert_eq!(meaning(15), Some("the member links do not join every node to node 0"));
     assert_eq!(meaning(16), Some("bytes follow the last tree"));
-    assert_eq!(meaning(17), None);
-    assert_eq!(meaning(u32::MAX), None);
+    assert_eq!([17, 18, 20, u32::MAX].map(meaning), [None; 4]);
+    assert_eq!(meaning(19), Some("the area cannot hold every side of the list, at 32 bytes a side"));
 }
 
 #[test]
@@ -74,14 +77,14 @@ fn a_certified_cut_is_the_lightest_of_all() {
     assert_sentence(
         &format!("{RING}tree share 1 links 0 1 2"),
         "answer 2 2 2 0 0 1 1\nside 1\n",
-        Ok("Links 0 and 1 of tree 0 name the cut: it severs node 1 from node 0, and the links that it crosses weigh 2 \
-            together. No cut of the whole network weighs less."),
+        Ok("The cut severs node 1 from node 0. It crosses links 0 (0-1:1) and 1 (1-2:1), which weigh 2 together; links 0 and 1 \
+            of tree 0 name it. No cut of the whole network weighs less."),
     );
     assert_sentence(
         "nodes 4\nlink 0-1:1\nlink 1-2:5\nlink 2-3:5\nlink 3-0:1\ntree share 1 links 0 1 2",
         "answer 2 2 2 0 0 - 3\nside 1 2 3\n",
-        Ok("Link 0 of tree 0 names the cut: it severs nodes 1, 2 and 3 from node 0, and the links that it crosses weigh 2 \
-            together. No cut of the whole network weighs less."),
+        Ok("The cut severs nodes 1, 2 and 3 from node 0. It crosses links 0 (0-1:1) and 3 (3-0:1), which weigh 2 together; link \
+            0 of tree 0 names it. No cut of the whole network weighs less."),
     );
 }
 
@@ -94,7 +97,8 @@ fn parallel(trees: &[(u64, usize)]) -> String {
 /// What follows for such a network of the cut that link 1 of tree 0 names.
 #[track_caller]
 fn assert_promise(trees: &[(u64, usize)], verdict: u8, floor: u64, promise: &str) {
-    let cut = "Link 1 of tree 0 names the cut: it severs node 1 from node 0, and the links that it crosses weigh 13 together.";
+    let cut = "The cut severs node 1 from node 0. It crosses links 0 (0-1:9) and 1 (0-1:4), which weigh 13 together; link 1 of tree \
+               0 names it.";
     let lines = format!("answer {verdict} 13 {floor} 0 1 - 1\nside 1\n");
     assert_sentence(&parallel(trees), &lines, Ok(&format!("{cut} {promise}")));
 }
@@ -104,8 +108,8 @@ fn a_floor_below_the_weight_is_named() {
     assert_sentence(
         "nodes 2\nlink 0-1:4\ntree share 1 links 0",
         "answer 1 4 3 0 0 - 1\nside 1\n",
-        Ok("Link 0 of tree 0 names the cut: it severs node 1 from node 0, and the one link that it crosses weighs 4. No \
-            cut that the listed trees show is lighter; the whole network may hold one, but none that weighs less than 3."),
+        Ok("The cut severs node 1 from node 0. It crosses link 0 (0-1:4), which weighs 4; link 0 of tree 0 names it. No cut that \
+            the listed trees show is lighter; the whole network may hold one, but none that weighs less than 3."),
     );
 }
 
@@ -145,9 +149,9 @@ fn a_floor_of_0_has_its_reason() {
     assert_sentence(
         &format!("{RING}tree share 0 links 0 1 2\ntree share 0 links 1 2 3"),
         "answer 1 2 0 0 0 1 1\nside 1\n",
-        Ok("Links 0 and 1 of tree 0 name the cut: it severs node 1 from node 0, and the links that it crosses weigh 2 \
-            together. No cut that the listed trees show is lighter. All shares are 0, so nothing is known of the cuts \
-            that no tree shows."),
+        Ok("The cut severs node 1 from node 0. It crosses links 0 (0-1:1) and 1 (1-2:1), which weigh 2 together; links 0 and 1 \
+            of tree 0 name it. No cut that the listed trees show is lighter. All shares are 0, so nothing is known of the \
+            cuts that no tree shows."),
     );
     assert_promise(
         &[(5, 1), (1, 0)],
@@ -195,13 +199,88 @@ fn a_floor_that_the_trees_do_not_give_is_an_error() {
 }
 
 #[test]
-fn sides_of_more_than_12_nodes_are_shortened() {
-    let upto = |last: usize| node_list(&(1..=last).collect::<Vec<_>>());
+fn all_nodes_of_a_side_are_named() {
+    let upto = |last: usize| cut::node_list(&(1..=last).collect::<Vec<_>>());
     assert_eq!(upto(1), "node 1");
     assert_eq!(upto(2), "nodes 1 and 2");
-    assert_eq!(upto(12), "nodes 1, 2, 3, 4, 5, 6, 7, 8, 9, 10, 11 and 12");
-    assert_eq!(upto(13), "nodes 1, 2, 3, 4, 5, 6, 7, 8, 9, 10, 11, 12 and 1 more node");
-    assert_eq!(upto(32), "nodes 1, 2, 3, 4, 5, 6, 7, 8, 9, 10, 11, 12 and 20 more nodes");
+    assert_eq!(upto(14), "nodes 1, 2, 3, 4, 5, 6, 7, 8, 9, 10, 11, 12, 13 and 14");
+}
+
+/// Three links hold the side of nodes 2 and 3, and the tree has two of them.
+#[test]
+fn links_that_no_tree_holds_are_named_too() {
+    assert_sentence(
+        "nodes 4\nlink 0-1:9\nlink 1-2:3\nlink 2-3:9\nlink 3-0:4\nlink 1-3:2\ntree share 3 links 0 1 3",
+        "answer 2 9 9 0 1 3 2\nside 2 3\n",
+        Ok("The cut severs nodes 2 and 3 from node 0. It crosses links 1 (1-2:3), 3 (3-0:4) and 4 (1-3:2), which weigh 9 \
+            together; links 1 and 3 of tree 0 name it. No cut of the whole network weighs less."),
+    );
+}
+
+/// The numbers between two words of a sentence.
+fn numbers_between(sentence: &str, from: &str, to: &str) -> Vec<u64> {
+    let (_, behind) = sentence.split_once(from).expect(from);
+    let (between, _) = behind.split_once(to).expect(to);
+    between.split(|at: char| !at.is_ascii_digit()).filter_map(|number| number.parse().ok()).collect()
+}
+
+/// Link numbers, ends and weights are counted from the network, node by node of the side.
+#[test]
+fn a_sentence_names_the_nodes_and_links_of_the_cut_and_no_others() {
+    let mut random = Random::new(6);
+    for feature in FEATURES {
+        for _ in 0..20 {
+            let size = generate::random_size(&mut random, 2, 40, feature);
+            let network = generate::network(&mut random, size, feature);
+            let answer = cuts::answer(&network);
+            let sentence = sentence(&network, &answer).expect("the network's answer");
+            let nodes = numbers_between(&sentence, "The cut severs ", " from node 0");
+            assert!(nodes.iter().map(|&node| node as usize).eq(answer.side.iter().copied()), "{sentence}");
+            let mut ends_met = vec![0; network.links.len()];
+            for node in &answer.side {
+                let meets = |link: &Link| link.first == *node || link.second == *node;
+                ends_met.iter_mut().zip(&network.links).for_each(|(met, link)| *met += u64::from(meets(link)));
+            }
+            let named = numbers_between(&sentence, "It crosses ", ", which weigh");
+            let crossing = (0..ends_met.len()).filter(|&link| ends_met[link] == 1);
+            let expected = crossing.flat_map(|link| {
+                let Link { first, second, weight } = network.links[link];
+                [link as u64, first as u64, second as u64, weight]
+            });
+            assert!(expected.eq(named.iter().copied()), "{sentence}");
+            assert_eq!(named.chunks(4).map(|link| link[3]).sum::<u64>(), answer.candidate.weight);
+        }
+    }
+}
+
+#[track_caller]
+fn assert_list(text: &str, sides: &[&[usize]], expected: Result<&str, &'static str>) {
+    let sides: Vec<Side> = sides.iter().map(|nodes| report::side_bytes(nodes.iter().copied())).collect();
+    let network = network(text);
+    let lines = list_lines(&network, &sides).map(|lines| lines.collect::<String>());
+    assert_eq!(lines, expected.map(str::to_string));
+}
+
+#[test]
+fn a_list_has_a_line_for_each_side_with_its_links() {
+    let ring = format!("{RING}tree share 1 links 0 1 2");
+    assert_list(
+        &ring,
+        &[&[2], &[1, 2, 3]],
+        Ok("sides 2 weight 2\nside 2 links 1 1-2:1 2 2-3:1\nside 1 2 3 links 0 0-1:1 3 3-0:1\n"),
+    );
+    assert_list(&parallel(&[(1, 0)]), &[&[1]], Ok("sides 1 weight 13\nside 1 links 0 0-1:9 1 0-1:4\n"));
+}
+
+#[test]
+fn a_list_that_does_not_fit_the_network_is_an_error() {
+    let ring = format!("{RING}tree share 1 links 0 1 2");
+    assert_list(&ring, &[], Err("the list is empty"));
+    let side = Err("a side is not some of the nodes behind node 0");
+    assert_list(&ring, &[&[1], &[]], side);
+    assert_list(&ring, &[&[1], &[0, 1]], side);
+    assert_list(&ring, &[&[4]], side);
+    assert_list(&ring, &[&[1], &[1, 3]], Err("the sides have different weights"));
 }
 
 #[test]
