@@ -1,11 +1,13 @@
-//! How the answer in force stands to those by the rules of units already sold.
+//! How the answer in force stands to those by the rules of units already sold, and to the list.
 
 use crate::cuts::{self, Answer, Firsts, BASE, CURRENT, LISTED, WHOLE};
+use crate::list::{self, Lightest, List};
 use crate::network::Network;
 
-/// The answers of a sound network by the rules in force and by those before.
+/// The answers of a sound network by the rules in force and by those before, and the list by those in force.
 pub struct Answers {
     pub current: Answer,
+    pub list: List,
     /// By document 01's order.
     pub listed: Answer,
     /// By document 01's order and its rule for the trees that count.
@@ -18,15 +20,19 @@ type Claim = (bool, &'static str);
 impl Answers {
     /// One search finds them all.
     pub fn of(network: &Network) -> Answers {
-        let firsts = Firsts::of(network);
+        let (mut firsts, mut lightest) = (Firsts::default(), Lightest::default());
+        cuts::each_candidate(network, |candidate, inside| {
+            firsts.meet(candidate, inside);
+            lightest.meet(candidate, inside);
+        });
         let by = |rules| firsts.answer(rules, network);
-        Answers { current: by(CURRENT), listed: by(LISTED), base: by(BASE) }
+        Answers { current: by(CURRENT), list: lightest.list(), listed: by(LISTED), base: by(BASE) }
     }
 
-    /// What the requests keep of a network's answers; the error names a claim that does not hold.
+    /// What the requests keep of a network's answers and its list; the error names a claim that does not hold.
     pub fn check(&self, network: &Network) -> Result<(), String> {
         match self.of_counting(network).into_iter().chain(self.of_order()).find(|(holds, _)| !holds) {
-            None => Ok(()),
+            None => list::check(&self.list, &self.current.side),
             Some((_, claim)) => Err(claim.to_string()),
         }
     }
@@ -154,5 +160,6 @@ mod tests {
         assert_broken(fewer, of_one_link([2, 3]), |of| of.current.candidate.first = 1);
         assert_broken(fewer, of_one_link([2, 3]), |of| of.current.candidate.second = Some(1));
         assert_broken("the same candidate has the same side", of_one_link([2, 3]), |of| of.current.side = vec![]);
+        assert_broken("the list begins with the reported side", of_a_ring(), |of| of.list.sides.swap(0, 1));
     }
 }

@@ -1,10 +1,12 @@
-//! Calls of the C entry. The sheet and both areas are lent between canaries.
+//! Calls of the C entries. Sheet, areas and count are lent between canaries.
 
-use reference::entry::wcut_report;
+use reference::entry::{wcut_list, wcut_report};
 use reference::random::Random;
 
 const CANARIES_BEFORE: usize = 16;
 const CANARIES_BEHIND: usize = 32;
+/// How many bytes of a long area are shown.
+const SHOWN: usize = 64;
 
 /// Lent bytes, with canaries before and behind them.
 #[derive(Clone, PartialEq, Eq)]
@@ -37,6 +39,18 @@ impl Lent {
         &mut self.bytes[CANARIES_BEFORE..CANARIES_BEFORE + self.length]
     }
 
+    /// Where the bytes of two areas of one length part: from the area's start, or in the canaries before it.
+    pub fn parts_from(&self, other: &Lent) -> Option<isize> {
+        let place = self.bytes.iter().zip(&other.bytes).position(|(one, other)| one != other)?;
+        Some(place as isize - CANARIES_BEFORE as isize)
+    }
+
+    /// Some bytes in hexadecimal from that place on.
+    pub fn show_from(&self, place: isize) -> String {
+        let from = (place + CANARIES_BEFORE as isize) as usize;
+        hexadecimal(&self.bytes[from..self.bytes.len().min(from + SHOWN)])
+    }
+
     /// The bytes in hexadecimal between their canaries.
     pub fn show(&self) -> String {
         let (before, rest) = self.bytes.split_at(CANARIES_BEFORE);
@@ -45,16 +59,46 @@ impl Lent {
     }
 }
 
+/// A lent count, with canaries before and behind it.
+#[derive(Clone, Copy, PartialEq, Eq)]
+pub struct LentCount([u32; 3]);
+
+impl LentCount {
+    /// A count of any value.
+    pub fn any(random: &mut Random) -> LentCount {
+        LentCount([0; 3].map(|_| random.number() as u32))
+    }
+
+    /// The same with that value.
+    pub fn with(self, count: u32) -> LentCount {
+        let LentCount([before, _, behind]) = self;
+        LentCount([before, count, behind])
+    }
+
+    /// The count between its canaries.
+    pub fn show(&self) -> String {
+        let LentCount([before, count, behind]) = self;
+        format!("[{before:08x}] {count} [{behind:08x}]")
+    }
+}
+
 pub fn hexadecimal(bytes: &[u8]) -> String {
     let bytes: Vec<String> = bytes.iter().map(|byte| format!("{byte:02x}")).collect();
     bytes.join(" ")
 }
 
-/// Calls the entry and returns its number. The caller sees in what it has lent whether anything was changed.
-pub fn call(sheet: &mut Lent, side: &mut Lent, report: &mut Lent) -> u32 {
+/// Calls the entry of the report and returns its number. The caller sees in what it has lent whether anything was changed.
+pub fn report(sheet: &mut Lent, side: &mut Lent, report: &mut Lent) -> u32 {
     let (sheet, side, report) = (sheet.lent(), side.lent(), report.lent());
     // SAFETY: each pointer is that of a slice with the length behind it, and the three slices do not overlap.
     unsafe {
         wcut_report(sheet.as_ptr(), sheet.len(), side.as_mut_ptr(), side.len(), report.as_mut_ptr(), report.len())
     }
+}
+
+/// The same with the entry of the list.
+pub fn list(sheet: &mut Lent, sides: &mut Lent, count: &mut LentCount) -> u32 {
+    let (sheet, sides) = (sheet.lent(), sides.lent());
+    // SAFETY: each pointer is that of a slice with the length behind it or of a number, and none of the three overlaps another.
+    unsafe { wcut_list(sheet.as_ptr(), sheet.len(), sides.as_mut_ptr(), sides.len(), &mut count.0[1]) }
 }

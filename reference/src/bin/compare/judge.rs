@@ -1,4 +1,8 @@
-//! Holds what the entry and both programs answer against what is expected, and counts.
+//! Holds what the entries and both programs answer against what is expected, and counts.
+
+mod list;
+
+pub use list::Lists;
 
 use std::fmt;
 use std::io;
@@ -62,10 +66,10 @@ pub type Judged = Result<(), Stop>;
 /// What is expected of a sheet: a refusal, or the answers of its network by the rules in force and by those before.
 pub type Expected = Result<Answers, Refusal>;
 
-/// Which way a sheet goes: to the entry, or to both programs too.
+/// Which way a sheet goes: to the entries, or to both programs too.
 #[derive(Clone, Copy)]
 pub enum Through {
-    Entry,
+    Entries,
     All,
 }
 
@@ -79,13 +83,20 @@ pub struct Programs {
 #[derive(Default)]
 pub struct Row {
     pub kind: String,
-    /// Calls of the entry, and runs of each program.
-    pub entry: u64,
+    /// Calls of each entry, and runs of each program.
+    pub wcut_report: u64,
+    pub wcut_list: u64,
     pub report: u64,
     pub trunks: u64,
     /// Cases by their expected outcome.
     pub accepted: u64,
     pub refused: u64,
+}
+
+impl Row {
+    pub fn calls_and_runs(&self) -> u64 {
+        self.wcut_report + self.wcut_list + self.report + self.trunks
+    }
 }
 
 /// How many of the accepted cases have which answer.
@@ -156,7 +167,7 @@ pub struct Before {
 
 impl Before {
     fn count(&mut self, answers: &Answers) {
-        let Answers { current, listed, base } = answers;
+        let Answers { current, listed, base, .. } = answers;
         self.floor += u64::from(listed.floor != base.floor);
         self.verdict += u64::from(listed.verdict != base.verdict);
         let same_tree = current.candidate.tree == listed.candidate.tree;
@@ -183,6 +194,7 @@ pub struct Judge {
     pub as_sold: u64,
     pub trunked: Trunked,
     pub before: Before,
+    pub lists: Lists,
 }
 
 impl Judge {
@@ -200,6 +212,7 @@ impl Judge {
             as_sold: 0,
             trunked: Trunked::default(),
             before: Before::default(),
+            lists: Lists::default(),
         }
     }
 
@@ -221,14 +234,15 @@ impl Judge {
         self.rows.iter().map(|row| row.accepted + row.refused).sum()
     }
 
-    /// How many calls of the entry and runs of the programs were judged.
+    /// How many calls of the entries and runs of the programs were judged.
     pub fn calls_and_runs(&self) -> u64 {
-        self.rows.iter().map(|row| row.entry + row.report + row.trunks).sum()
+        self.rows.iter().map(Row::calls_and_runs).sum()
     }
 
-    /// Sheets with bit 3 of every kind that is counted, and answers that the order alters, have to be among the cases.
+    /// Sheets with bit 3 and lists of every kind that is counted, and answers that the order alters, have to be among the cases.
     pub fn saw_all(&self) -> Judged {
         let Trunked { sheets, accepted, cut_off, raised } = self.trunked;
+        let Lists { several, of_several_trees, many, short, short_and_refused, .. } = self.lists;
         let counts = [
             (self.before.same_tree, "a side of the same tree that is first by fewer nodes"),
             (self.before.other_tree, "a side of another tree that is first by fewer nodes"),
@@ -236,6 +250,11 @@ impl Judge {
             (cut_off, "a trunk number that is cut off"),
             (sheets - raised, "a trunk number that units already sold refuse with 8"),
             (raised, "a trunk number behind a weight that units already sold refuse with 11"),
+            (several, "a list of several sides"),
+            (of_several_trees, "a list with sides that several trees show"),
+            (many, "a list of very many sides"),
+            (short, "an area that is too short for a list"),
+            (short_and_refused, "a refused sheet with an area that is too short for any list"),
         ];
         match counts.into_iter().find(|(count, _)| *count == 0) {
             None => Ok(()),
@@ -243,12 +262,12 @@ impl Judge {
         }
     }
 
-    /// Through all once in so many times, else through the entry only.
+    /// Through all once in so many times, else through the entries only.
     pub fn all_once_in(&mut self, times: usize) -> Through {
         if self.random.once_in(times) {
             Through::All
         } else {
-            Through::Entry
+            Through::Entries
         }
     }
 
@@ -274,9 +293,10 @@ impl Judge {
         }
         let side_length = self.random.between(SIDE_BYTES, LONGEST_AREA);
         let report_length = self.random.between(REPORT_BYTES, LONGEST_AREA);
-        self.through_entry(sheet, &outcome, side_length, report_length)?;
+        self.through_report(sheet, &outcome, side_length, report_length)?;
+        self.through_list(sheet, list::listed(expected))?;
         match through {
-            Through::Entry => Ok(()),
+            Through::Entries => Ok(()),
             Through::All => self.through_programs(sheet, &outcome, &readings.current, &[]),
         }
     }
@@ -300,7 +320,7 @@ impl Judge {
     /// The expected answer keeps what it has to of those by the rules of units already sold.
     fn keeps_of_sold(&mut self, sheet: &[u8], network: &Network, answers: &Answers) -> Judged {
         self.before.count(answers);
-        let Answers { current, listed, base } = answers;
+        let Answers { current, listed, base, .. } = answers;
         match answers.check(network) {
             Ok(()) => Ok(()),
             Err(claim) => self.differs(sheet, format!("{claim}: {base:?}, {listed:?}\n"), format!("{current:?}\n")),
@@ -315,8 +335,9 @@ impl Judge {
         self.through_programs(sheet, &expected, &reading, pauses)
     }
 
-    /// The entry is called with areas of all lengths from 0 on.
+    /// The entries are called with areas of all lengths from 0 on.
     pub fn all_area_lengths(&mut self, sheet: &[u8]) -> Judged {
+        let expected = sheet::read(sheet).map(|network| Answers::of(&network));
         let outcome = report::outcome(sheet);
         for side_length in 0..=LONGEST_AREA {
             for report_length in 0..=LONGEST_AREA {
@@ -324,10 +345,10 @@ impl Judge {
                     Some(number) => self.count_refusal(number),
                     None => self.count(&outcome),
                 }
-                self.through_entry(sheet, &outcome, side_length, report_length)?;
+                self.through_report(sheet, &outcome, side_length, report_length)?;
             }
         }
-        Ok(())
+        self.list_of_every_length(sheet, list::listed(&expected))
     }
 
     /// Counts a case by its expected outcome.
@@ -352,7 +373,7 @@ impl Judge {
         self.refusals[number as usize] += 1;
     }
 
-    fn through_entry(&mut self, sheet: &[u8], outcome: &Outcome, side_length: usize, report_length: usize) -> Judged {
+    fn through_report(&mut self, sheet: &[u8], outcome: &Outcome, side_length: usize, report_length: usize) -> Judged {
         let mut side = Lent::area(side_length, &mut self.random);
         let mut report = Lent::area(report_length, &mut self.random);
         let (mut expected_side, mut expected_report) = (side.clone(), report.clone());
@@ -367,8 +388,8 @@ impl Judge {
         };
         let mut lent_sheet = Lent::sheet(sheet, &mut self.random);
         let kept_sheet = lent_sheet.clone();
-        let number = entry::call(&mut lent_sheet, &mut side, &mut report);
-        self.row().entry += 1;
+        let number = entry::report(&mut lent_sheet, &mut side, &mut report);
+        self.row().wcut_report += 1;
         let areas_agree = side == expected_side && report == expected_report;
         if number == expected_number && areas_agree && lent_sheet == kept_sheet {
             return Ok(());

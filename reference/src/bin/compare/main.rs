@@ -1,9 +1,10 @@
-//! Compares the monitor with the second implementation: the C entry of the archive that is linked in, the report program and the cable
+//! Compares the monitor with the second implementation: the C entries of the archive that is linked in, the report program and the cable
 //! crew's program.
 
 mod entry;
 mod inputs;
 mod judge;
+mod long_lists;
 mod networks;
 mod program;
 mod shapes;
@@ -14,19 +15,20 @@ use std::path::PathBuf;
 use std::process::ExitCode;
 use std::time::{SystemTime, UNIX_EPOCH};
 
-use judge::{Before, Judge, Judged, Programs, Runs, Stop, Trunked};
+use judge::{Before, Judge, Judged, Lists, Programs, Runs, Stop, Trunked};
 use networks::Counts;
 use reference::random::Random;
 
 const USAGE: &str = "\
 usage: compare REPORT TRUNKS [--seed S] [--soak N]
 
-Sends sheets to the C entry, to the report program REPORT and to the cable crew's program TRUNKS, and holds number, areas,
-lines and exit status against the reference's.
+Sends sheets to the C entries, to the report program REPORT and to the cable crew's program TRUNKS, and holds numbers, areas,
+counts, lines and exit status against the reference's.
 Without --soak: a fixed share of every kind, one to two minutes long, with seed 1 unless --seed gives another.
 With --soak N, from 1 on: N random cases with a new seed, which is printed first; --seed S --soak N runs the same again.
-Prints how many of what kind were run. A case is a sheet with its areas or pauses; it has an answer of the entry, one of each
-program, or all three. The first answer that differs is printed with its sheet, and ends it with status 1.";
+Prints how many of what kind were run. A case is a sheet with its areas or pauses; it has answers of the entries, one of each
+program, or all. The list of a sheet may be asked for with several areas. The first answer that differs is printed with its
+sheet, and ends it with status 1.";
 
 const FIXED_SEED: u64 = 1;
 
@@ -70,16 +72,16 @@ fn fixed_share(judge: &mut Judge, random: &mut Random) -> Judged {
     networks::of_every_feature(judge, random, &Counts { small: 500, middle: 65, large: 5 })?;
     networks::at_the_limits(judge, random)?;
     shapes::of_every_kind(judge, random, 300)?;
+    long_lists::of_every_size(judge, random)?;
     judge.saw_all()
 }
 
 fn print_table(judge: &Judge) {
-    println!("{:<44}{:>10}{:>10}{:>10}{:>10}{:>10}", "kind", "entry", "report", "trunks", "accepted", "refused");
-    for row in judge.rows.iter().filter(|row| row.entry + row.report > 0) {
-        println!(
-            "{:<44}{:>10}{:>10}{:>10}{:>10}{:>10}",
-            row.kind, row.entry, row.report, row.trunks, row.accepted, row.refused
-        );
+    let columns = ["wcut_report", "wcut_list", "report", "trunks", "accepted", "refused"];
+    println!("{:<44}{}", "kind", columns.map(|column| format!("{column:>12}")).concat());
+    for row in judge.rows.iter().filter(|row| row.calls_and_runs() > 0) {
+        let numbers = [row.wcut_report, row.wcut_list, row.report, row.trunks, row.accepted, row.refused];
+        println!("{:<44}{}", row.kind, numbers.map(|number| format!("{number:>12}")).concat());
     }
     let accepted = &judge.accepted;
     println!(
@@ -99,10 +101,17 @@ fn print_table(judge: &Judge) {
     let Before { floor, verdict, same_tree, other_tree } = judge.before;
     println!("another floor than by the rule of units already sold: {floor}, another verdict: {verdict}");
     println!("another side than by their order: {same_tree} of the same tree, {other_tree} of another");
+    print_lists(&judge.lists);
     println!(
         "networks: {} by every side too, {} in a longer sheet than the shortest",
         judge.by_every_side, judge.longer
     );
+}
+
+fn print_lists(lists: &Lists) {
+    let Lists { written, several, of_several_trees, many: _, sides, longest, short, short_and_refused } = lists;
+    println!("lists: {written} of {sides} sides, {several} of several, {of_several_trees} with sides of several trees");
+    println!("the longest list: {longest} sides; areas too short: {short} refused with 19, {short_and_refused} for the sheet");
 }
 
 fn main() -> ExitCode {

@@ -6,7 +6,7 @@ use reference::random::Random;
 use reference::report;
 use reference::sheet::{self, LEAST_NODES, MOST_LINKS, MOST_NODES, MOST_TREES};
 use reference::sold::Answers;
-use reference::{cuts, every_side};
+use reference::{every_side, list};
 
 use crate::judge::{Judge, Judged, Through};
 
@@ -107,14 +107,20 @@ pub fn judged(judge: &mut Judge, random: &mut Random, network: Network, through:
     let network = &contents.network;
     let answers = Answers::of(network);
     if network.nodes <= every_side::MOST_NODES {
-        by_every_side(judge, network, &sheet, &answers.current)?;
+        by_every_side(judge, network, &sheet, &answers)?;
     }
     judge.expect(&sheet, &Ok(answers), through)
 }
 
-/// The same answer by every side, and the demands on it.
-fn by_every_side(judge: &mut Judge, network: &Network, sheet: &[u8], answer: &cuts::Answer) -> Judged {
+/// The same answer and the same list by every side, and the demands on the answer.
+fn by_every_side(judge: &mut Judge, network: &Network, sheet: &[u8], answers: &Answers) -> Judged {
     judge.by_every_side += 1;
+    let Answers { current: answer, list, .. } = answers;
+    let listed = list::by_every_side(network);
+    if listed != *list {
+        let got = format!("{list:?}\nby the reference's component search\n");
+        return judge.differs(sheet, format!("{listed:?}\n"), got);
+    }
     let expected = every_side::answer(network);
     if expected != *answer {
         let got = report::lines(&Ok(answer.clone()));
