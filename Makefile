@@ -1,4 +1,4 @@
-# make demo                  the reports of the networks in examples/, and what they mean
+# make demo                  the reports of the networks in examples/, what they mean, and the lists of two of them
 # make demo NET=file         the report of a network of yours, as text
 # make test                  prove and test everything; the last line is `N passed, 0 failed`
 # make soak [N=100000]       compare so many random cases with the reference; SEED=.. repeats a run

@@ -1,8 +1,8 @@
-//! Links the monitor's archive into the binaries that call its entry, and into no other.
+//! Links the monitor's archive into the binaries that call its entries, and into no other.
 
 /// From the package's folder, in which cargo runs the build.
 const ARCHIVE: &str = "../target/staticlib/libmonitor.a";
-const CALLERS: [&str; 2] = ["compare", "bench"];
+const CALLERS: [&str; 3] = ["network", "compare", "bench"];
 
 fn main() {
     println!("cargo:rerun-if-changed=build.rs");

@@ -1,6 +1,8 @@
-//! Turns networks as text into link sheets and back, and says what the report program answers for them.
+//! Turns networks as text into link sheets and back, and says what the report program and the entry of the list answer for them.
 
 use reference::explain::{self, Printed};
+use reference::network::Network;
+use reference::report::Side;
 use reference::text::{self, Parsed};
 use reference::{sheet, sheet::Refusal};
 use std::ffi::{OsStr, OsString};
@@ -11,6 +13,7 @@ const USAGE: &str = "\
 network sheet [FILE]              turns a network as text into a link sheet
 network text [FILE]               turns a link sheet into a network as text
 network report PROGRAM FILE...    runs the report program on networks as text and says what its lines mean
+network list [FILE]               lists every cut of the reported weight of a network as text, smallest side first
 
 Without FILE, standard input is read. The result goes to standard output. docs/NETWORKS.md describes the text.
 ";
@@ -24,6 +27,7 @@ fn main() -> ExitCode {
     let done = match (command, &words[..]) {
         (Some("sheet"), [_, file @ ..]) if file.len() <= 1 => sheet_of_text(&Source::of(file)),
         (Some("text"), [_, file @ ..]) if file.len() <= 1 => text_of_sheet(&Source::of(file)),
+        (Some("list"), [_, file @ ..]) if file.len() <= 1 => list_of_text(&Source::of(file)),
         (Some("report"), [_, program, files @ ..]) if !files.is_empty() => return report_all(program, files),
         _ => {
             eprint!("{USAGE}");
@@ -88,12 +92,47 @@ fn sheet_of_text(source: &Source) -> Result<(), String> {
     let parsed = source.parse()?;
     let bytes = sheet::write_contents(&parsed.contents);
     if let Err(refusal) = sheet::read(&bytes) {
-        let Refusal { number, .. } = refusal;
-        let (line, why) = (parsed.line_of(&refusal), explain::refusal_of(&parsed.contents.network, &refusal));
-        eprintln!("{}:{line}: the monitor refuses this sheet, number {number}: {why}", source.name());
+        eprintln!("{}", refusal_note(source, &parsed, &refusal));
     }
     print(&bytes);
     Ok(())
+}
+
+fn refusal_note(source: &Source, parsed: &Parsed, refusal: &Refusal) -> String {
+    let Refusal { number, .. } = refusal;
+    let (line, why) = (parsed.line_of(refusal), explain::refusal_of(&parsed.contents.network, refusal));
+    format!("{}:{line}: the monitor refuses this sheet, number {number}: {why}", source.name())
+}
+
+/// Prints the list that the monitor makes, a line a side.
+fn list_of_text(source: &Source) -> Result<(), String> {
+    let parsed = source.parse()?;
+    let bytes = sheet::write_contents(&parsed.contents);
+    let reading = sheet::read(&bytes);
+    let candidates = |network: &Network| network.trees.len() * network.nodes * (network.nodes - 1) / 2;
+    let listed = entry_list(&bytes, reading.as_ref().map_or(0, candidates));
+    let failed = |what: String| format!("{}: the list: {what}", source.name());
+    match (listed.map_err(failed)?, reading) {
+        (Ok(sides), Ok(network)) => {
+            let lines = explain::list_lines(&network, &sides).map_err(|what| failed(what.to_string()))?;
+            lines.for_each(|line| print(line.as_bytes()));
+            Ok(())
+        }
+        (Err(number), Err(refusal)) if number == refusal.number => Err(refusal_note(source, &parsed, &refusal)),
+        (_, Err(refusal)) => Err(failed(format!("the sheet has to be refused, number {}", refusal.number))),
+        (Err(number), Ok(_)) => Err(failed(format!("the sheet must not be refused, number {number}"))),
+    }
+}
+
+/// What the monitor's entry lists in an area for so many sides, or the number of its refusal.
+#[cfg(feature = "archive")]
+fn entry_list(sheet: &[u8], most_sides: usize) -> Result<Result<Vec<Side>, u32>, String> {
+    Ok(reference::entry::list(sheet, most_sides))
+}
+
+#[cfg(not(feature = "archive"))]
+fn entry_list(_: &[u8], _: usize) -> Result<Result<Vec<Side>, u32>, String> {
+    Err("this command was built without the monitor's archive; `make demo` builds it with the archive".to_string())
 }
 
 fn text_of_sheet(source: &Source) -> Result<(), String> {
