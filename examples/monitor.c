@@ -1,12 +1,15 @@
 /*
- * Calls the entry on three sheets and prints what it answers, in the form of the report program: document 01's case A, the same
- * sheet with one byte more, which is refused, and one whose weight and floor need more than 4 bytes. `make test` builds and runs
- * this; tools/firmware has the commands.
+ * Calls both entries on four sheets and prints what they answer, a report in the form of the report program and then the list: document
+ * 01's case A, the same sheet with one byte more, which is refused, one whose weight and floor need more than 4 bytes, and a ring of four
+ * nodes, whose list has six sides and is refused when the area has room for five. `make test` builds and runs this; tools/firmware has
+ * the commands.
  */
 #include <inttypes.h>
 #include <stdio.h>
 
 #include "wcut.h"
+
+#define ROOM 6 /* sides */
 
 static uint64_t number(const uint8_t *at, int bytes)
 {
@@ -17,13 +20,39 @@ static uint64_t number(const uint8_t *at, int bytes)
     return value;
 }
 
-static void show(const uint8_t *sheet, size_t length)
+static void show_side(const uint8_t *side)
+{
+    unsigned node;
+
+    printf("side");
+    for (node = 0; node < WCUT_MOST_NODES; node++)
+        if ((side[node / 8] >> (node % 8)) & 1)
+            printf(" %u", node);
+    printf("\n");
+}
+
+static void show_list(const uint8_t *sheet, size_t length, size_t room)
+{
+    static uint8_t sides[ROOM * WCUT_SIDE_BYTES];
+    uint32_t count;
+    uint32_t refusal = wcut_list(sheet, length, sides, room * WCUT_SIDE_BYTES, &count);
+    uint32_t at;
+
+    if (refusal != WCUT_ACCEPTED) {
+        printf("refused %" PRIu32 "\n", refusal);
+        return;
+    }
+    printf("sides %" PRIu32 "\n", count);
+    for (at = 0; at < count; at++)
+        show_side(sides + at * WCUT_SIDE_BYTES);
+}
+
+static void show_report(const uint8_t *sheet, size_t length)
 {
     uint8_t side[WCUT_SIDE_BYTES] = {0};
     uint8_t report[WCUT_REPORT_BYTES] = {0};
     uint32_t refusal = wcut_report(sheet, length, side, sizeof side, report, sizeof report);
     uint64_t second;
-    unsigned node;
 
     if (refusal != WCUT_ACCEPTED) {
         printf("refused %" PRIu32 "\n", refusal);
@@ -37,11 +66,14 @@ static void show(const uint8_t *sheet, size_t length)
         printf("-");
     else
         printf("%" PRIu64, second);
-    printf(" %" PRIu64 "\nside", number(report + WCUT_AT_COUNT, 2));
-    for (node = 0; node < WCUT_MOST_NODES; node++)
-        if ((side[node / 8] >> (node % 8)) & 1)
-            printf(" %u", node);
-    printf("\n");
+    printf(" %" PRIu64 "\n", number(report + WCUT_AT_COUNT, 2));
+    show_side(side);
+}
+
+static void show(const uint8_t *sheet, size_t length)
+{
+    show_report(sheet, length);
+    show_list(sheet, length, ROOM);
 }
 
 int main(void)
@@ -60,9 +92,19 @@ int main(void)
         0x00,                                                 /* link 1: the same */
         0xFF, 0xFF, 0xFF, 0xFF, 0x01                          /* tree 0: share 4294967295, link 0 */
     };
+    static const uint8_t ring[] = {
+        0x04, 0x00, 0x04, 0x00, 0x01,                         /* 4 nodes, 4 links, 1 tree */
+        0x07, 0x00, 0x00, 0x01, 0x00, 0x01, 0x00, 0x00, 0x00, /* link 0: 0-1, weight 1 */
+        0x03, 0x01, 0x00, 0x02, 0x00,                         /* link 1: 1-2, the same weight */
+        0x03, 0x02, 0x00, 0x03, 0x00,                         /* link 2: 2-3 */
+        0x03, 0x03, 0x00, 0x00, 0x00,                         /* link 3: 3-0 */
+        0x01, 0x00, 0x00, 0x00, 0x07                          /* tree 0: share 1, links 0, 1 and 2 */
+    };
 
     show(sheet, sizeof sheet - 1);
     show(sheet, sizeof sheet);
     show(heavy, sizeof heavy);
+    show(ring, sizeof ring);
+    show_list(ring, sizeof ring, ROOM - 1);
     return 0;
 }
