@@ -2,10 +2,12 @@
 //! (`plain`), for a network that was read already, and whole the plain method (`before`), which weighs every pair by itself. The networks
 //! are made from a fixed seed and written as sheets. All three answer each sheet and must agree; they are timed in turns, and the best
 //! time of each counts.
-//! With `--stack`, it prints instead how many bytes of stack the entry takes for longest sheets.
+//! Then it times the entry of the list, `wcut_list`, against `wcut_report` on the same sheets.
+//! With `--stack`, it prints instead how many bytes of stack each entry takes for longest sheets.
 
 mod answer;
 mod before;
+mod lists;
 mod networks;
 mod places;
 mod plain;
@@ -15,7 +17,7 @@ mod stack;
 
 use answer::Outcome;
 use networks::{Kind, KINDS};
-use reference::entry::wcut_report;
+use reference::entry::{wcut_list, wcut_report};
 use reference::generate::Size;
 use std::process::exit;
 use std::time::Instant;
@@ -60,6 +62,17 @@ fn entry(sheet: &[u8]) -> Outcome {
         wcut_report(sheet.as_ptr(), sheet.len(), side.as_mut_ptr(), side.len(), report.as_mut_ptr(), report.len())
     };
     outcome
+}
+
+/// The number of sides that the entry of the list writes, all of which the area has room for.
+fn list_entry(sheet: &[u8], area: &mut [u8]) -> usize {
+    let mut count = 0;
+    // SAFETY: each pointer is that of a slice with the length behind it or of a number, and none of the three overlaps another.
+    let number = unsafe {
+        wcut_list(sheet.as_ptr(), sheet.len(), area.as_mut_ptr(), area.len(), std::ptr::from_mut(&mut count))
+    };
+    assert_eq!(number, 0);
+    count as usize
 }
 
 /// The call's answer; its time counts where it is the best.
@@ -150,10 +163,17 @@ fn print_table() -> bool {
 
 fn main() {
     match std::env::args().nth(1).as_deref() {
-        None => exit(i32::from(!print_table())),
+        None => {
+            let kept = print_table();
+            exit(i32::from(!(lists::print_table() && kept)))
+        }
         Some("--stack") => {
-            let depths = KINDS.map(|kind| stack::depth(&networks::sheet(LONGEST, &kind)));
-            println!("stack depth {} bytes", depths.into_iter().max().unwrap_or(0));
+            let sheets = KINDS.map(|kind| networks::sheet(LONGEST, &kind));
+            println!("stack depth {} bytes", sheets.iter().map(|sheet| stack::depth(sheet)).max().unwrap_or(0));
+            println!(
+                "list stack depth {} bytes",
+                sheets.iter().map(|sheet| stack::list_depth(sheet, lists::MOST_SIDES)).max().unwrap_or(0)
+            );
         }
         Some(_) => {
             eprintln!("usage: bench [--stack]");

@@ -1,39 +1,68 @@
-//! How deep the entry's stack goes.
+//! How deep the entries' stack goes.
 
 use crate::answer::Outcome;
-use reference::entry::wcut_report;
+use reference::entry::{wcut_list, wcut_report};
+use reference::report::SIDE_BYTES;
 use std::arch::asm;
 
 const PAINT: u128 = u128::MAX / 3;
-/// More than the entry needs.
+/// More than an entry needs.
 const STACK_BYTES: usize = 256 * 1024;
 
-/// Calls the entry on a painted stack of its own and counts the bytes from its top down to the last one overwritten.
-pub fn depth(sheet: &[u8]) -> usize {
+/// An entry's six arguments, as registers have them.
+type Registers = [usize; 6];
+
+/// Calls an entry on a painted stack of its own, and answers its number and the bytes from the stack's top down to the last one
+/// overwritten.
+///
+/// # Safety
+///
+/// The registers hold what the entry asks of its arguments.
+unsafe fn call(entry: usize, registers: Registers) -> (u32, usize) {
     let mut stack = vec![PAINT; STACK_BYTES / size_of::<u128>()];
-    let Outcome { mut side, mut report, .. } = Outcome::unwritten(0);
     let number: u32;
-    // SAFETY: each pointer is that of a slice with the length behind it, and the three slices do not overlap. The call has the C
-    // convention's registers, and a stack of its own whose top is aligned to 16 bytes and which is larger than the entry needs; r12
-    // holds the stack before, since the convention keeps it.
+    // SAFETY: the call has the C convention's registers, and a stack of its own whose top is aligned to 16 bytes and which is larger than
+    // the entry needs; r12 holds the stack before, since the convention keeps it.
     unsafe {
         asm!(
             "xchg rsp, r12",
             "call {entry}",
             "mov rsp, r12",
-            entry = sym wcut_report,
+            entry = in(reg) entry,
             inout("r12") stack.as_mut_ptr_range().end => _,
-            in("rdi") sheet.as_ptr(),
-            in("rsi") sheet.len(),
-            in("rdx") side.as_mut_ptr(),
-            in("rcx") side.len(),
-            in("r8") report.as_mut_ptr(),
-            in("r9") report.len(),
+            in("rdi") registers[0],
+            in("rsi") registers[1],
+            in("rdx") registers[2],
+            in("rcx") registers[3],
+            in("r8") registers[4],
+            in("r9") registers[5],
             lateout("eax") number,
             clobber_abi("C"),
         );
     }
-    assert_eq!(number, 0);
     let untouched = stack.iter().take_while(|&&word| word == PAINT).count();
-    size_of_val(&stack[untouched..])
+    (number, size_of_val(&stack[untouched..]))
+}
+
+/// The stack that the report of a sheet takes.
+pub fn depth(sheet: &[u8]) -> usize {
+    let Outcome { mut side, mut report, .. } = Outcome::unwritten(0);
+    let (s, r) = (side.as_mut_ptr() as usize, report.as_mut_ptr() as usize);
+    let registers = [sheet.as_ptr() as usize, sheet.len(), s, side.len(), r, report.len()];
+    // SAFETY: each pointer is that of a slice with the length behind it, and the three slices do not overlap.
+    let (number, depth) = unsafe { call(wcut_report as *const () as usize, registers) };
+    assert_eq!(number, 0);
+    depth
+}
+
+/// The stack that the list of a sheet takes.
+pub fn list_depth(sheet: &[u8], most_sides: usize) -> usize {
+    let mut sides = vec![0; most_sides * SIDE_BYTES];
+    let mut count: u32 = 0;
+    let (s, c) = (sides.as_mut_ptr() as usize, std::ptr::from_mut(&mut count) as usize);
+    let registers = [sheet.as_ptr() as usize, sheet.len(), s, sides.len(), c, 0];
+    // SAFETY: each pointer is that of a slice with the length behind it or of a number, and none of the three overlaps another.
+    let (number, depth) = unsafe { call(wcut_list as *const () as usize, registers) };
+    assert_eq!(number, 0);
+    depth
 }
