@@ -19,7 +19,7 @@ use Rattle.listing.specs.ListArea.{listBytes, sidesRead, areaLength, fitting, l
 use Rattle.listing.proofs.ListingLaws.{fewerNodes-by-sides}
 use Rattle.listing.proofs.ListAreaLaws.{fitting-room, fitting-short, sheet-fitting, sides-owed}
 use Rattle.op_list.specs.Lists.{ListLeft}
-use Rattle.monitor.specs.ListEntry.{Listed}
+use Rattle.monitor.specs.ListEntry.{SidesListed}
 
 -- where no refusal is returned the sheet is accepted and the area has room
 list-accepted : (f : Format) (sheet sides : Bytes) → numberOf (listReading f sheet sides) ≡ 0
@@ -39,7 +39,7 @@ list-accepted f sheet sides z =
     room net z (no l) = fitting-room f sides net [] (omega arith)
 
 pub list-promised : (sheet sides : Bytes) {sides′ : Bytes} {count n : ℕ} → ListLeft current (listReading current sheet sides) sides sides′ count n
-    → Listed current sheet sides sides′ count n
+    → SidesListed current sheet sides sides′ count n
 list-promised sheet sides {sides′} {count} {n} w = record { number = w .number; count-is = w .count-is; sides-is = w .sides-is; owed = owed }
   where
     owed : n ≡ 0 → (net : Network) × (decode current sheet ≡ accepted net []) × OwedList fewerNodes net (sidesRead (net .nodes) count sides′)

@@ -1,6 +1,6 @@
 -- What the entry for the list returns and leaves in the area, for every sheet and every area, by the format (document 02, F-5). Assumes
 -- nothing.
---   Listed f ..    all that the entry promises, where the area held `sides`, holds sides′ afterwards, `count` is the number of sides that it
+--   SidesListed f ..    all that the entry promises, where the area held `sides`, holds sides′ afterwards, `count` is the number of sides that it
 --                  answers, and n is returned
 use Prim.Native.Nat.{ℕ}
 use mathlib.Core.Path.{_≡_}
@@ -12,7 +12,7 @@ use Rattle.sheet.specs.Sheet.{Format, decode}
 use Rattle.listing.specs.Listing.{OwedList}
 use Rattle.listing.specs.ListArea.{listReading, sidesLeft, countLeft, sidesRead}
 
-pub record Listed (f : Format) (sheet sides sides′ : Bytes) (count n : ℕ) : Type 0 where
+pub record SidesListed (f : Format) (sheet sides sides′ : Bytes) (count n : ℕ) : Type 0 where
   -- each refusal of the sheet, then 19
   pub number : n ≡ numberOf (listReading f sheet sides)
   -- "The answer carries the number of sides beside the return number, 0 when refused"

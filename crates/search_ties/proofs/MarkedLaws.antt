@@ -21,7 +21,7 @@ use Rattle.search_order.proofs.LinkLaws.{handle-fits, handle-every}
 use Rattle.tree_ranks.specs.Ranks.{RanksOf}
 use Rattle.bit_table.specs.Bits.{bitOf}
 use Rattle.bit_table.specs.Cells.{isCell, cellHandle}
-use Rattle.search_ties.specs.Ties.{weightAt, InRows, TiesAmong, TiesMarked}
+use Rattle.search_ties.specs.Ties.{weightOfPlaces, InRows, TiesAmong, TiesMarked}
 use Rattle.search_ties.proofs.CellLaws.{cell-handle, cell-is, cell-every}
 
 module _ {net : Network} {t : Tree} {links at rank : List ℕ} {limit least u : ℕ} {table : List ℕ} (few : net .nodes ≤ mostNodes)
@@ -71,7 +71,7 @@ module _ {net : Network} {t : Tree} {links at rank : List ℕ} {limit least u : 
     tabled = λ q. agree _ _ (cell-marked q) (marked-cell q);
   }
     where
-      step : (least ≡ limit) ⊎ ((x : ℕ) × (y : ℕ) × InRows (net .nodes) u (net .nodes) x y × (weightAt net t links x y ≡ least))
+      step : (least ≡ limit) ⊎ ((x : ℕ) × (y : ℕ) × InRows (net .nodes) u (net .nodes) x y × (weightOfPlaces net t links x y ≡ least))
           → (least ≡ limit) ⊎ ((g : Handle) × Fits net t g × (weightOf net t g ≡ least))
       step (inl e) = inl e
       step (inr m) = let p = m .2 in inr (_, handle-fits a (m .0) (m .1) (p .0) (p .1) (p .2), m .3)

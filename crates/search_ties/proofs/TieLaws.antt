@@ -16,7 +16,7 @@ use Rattle.search_order.specs.Visits.{passed}
 use Rattle.search_order.proofs.HandleLaws.{three-ways}
 use Rattle.bit_table.specs.Bits.{bitOf}
 use Rattle.bit_table.proofs.BitLaws.{bitOf-clear}
-use Rattle.search_ties.specs.Ties.{cellAt, weightAt, InRows, TieKept, TiesAmong}
+use Rattle.search_ties.specs.Ties.{cellAt, weightOfPlaces, InRows, TieKept, TiesAmong}
 
 -- a number met among some pairs is met among more
 met-more : {among more : ℕ → ℕ → Type 0} {least limit : ℕ} (f : ℕ → ℕ → ℕ) → ((x y : ℕ) → among x y → more x y)
@@ -43,7 +43,7 @@ module _ {net : Network} {t : Tree} {links rank : List ℕ} {limit : ℕ} where
   ties-same to of h = record {
     up-to = h .up-to;
     lightest = λ x y m. h .lightest x y (of x y m);
-    met = met-more (weightAt net t links) to (h .met);
+    met = met-more (weightOfPlaces net t links) to (h .met);
     of = λ q e. let r = h .of q e in (r .0, r .1, to (r .0) (r .1) (r .2), r .3, r .4);
     every = λ x y m. h .every x y (of x y m);
   }
@@ -58,61 +58,61 @@ module _ {net : Network} {t : Tree} {links rank : List ℕ} {limit : ℕ} where
         go (inl s) = a x y s
         go (inr s) = rw (s .0, s .1) b
 
-    ties-heavier : {after : List ℕ} → least < weightAt net t links u v → ((k : ℕ) → bitOf after k ≡ bitOf table k)
+    ties-heavier : {after : List ℕ} → least < weightOfPlaces net t links u v → ((k : ℕ) → bitOf after k ≡ bitOf table k)
         → TiesAmong net t links rank more limit least after
     ties-heavier {after} l k = record {
       up-to = h .up-to;
-      lightest = each (λ x y. least ≤ weightAt net t links x y) (h .lightest) (omega arith);
-      met = met-more (weightAt net t links) to (h .met);
+      lightest = each (λ x y. least ≤ weightOfPlaces net t links x y) (h .lightest) (omega arith);
+      met = met-more (weightOfPlaces net t links) to (h .met);
       of = λ q e. let r = h .of q (sym (k q) ∙ e) in (r .0, r .1, to (r .0) (r .1) (r .2), r .3, r .4);
-      every = each (λ x y. weightAt net t links x y ≡ least → bitOf after (cellAt rank x y) ≡ true)
+      every = each (λ x y. weightOfPlaces net t links x y ≡ least → bitOf after (cellAt rank x y) ≡ true)
           (λ x y m e. k _ ∙ h .every x y m e) (λ e. absurd (omega arith));
     }
 
-    ties-even : {after : List ℕ} → weightAt net t links u v ≡ least → ((k : ℕ) → bitOf after k ≡ (bitOf table k || eqb k (cellAt rank u v)))
+    ties-even : {after : List ℕ} → weightOfPlaces net t links u v ≡ least → ((k : ℕ) → bitOf after k ≡ (bitOf table k || eqb k (cellAt rank u v)))
         → TiesAmong net t links rank more limit least after
     ties-even {after} l k = record {
       up-to = h .up-to;
-      lightest = each (λ x y. least ≤ weightAt net t links x y) (h .lightest) (omega arith);
-      met = met-more (weightAt net t links) to (h .met);
+      lightest = each (λ x y. least ≤ weightOfPlaces net t links x y) (h .lightest) (omega arith);
+      met = met-more (weightOfPlaces net t links) to (h .met);
       of = λ q e. marked q (either (bitOf table q) (eqb q (cellAt rank u v)) (sym (k q) ∙ e));
-      every = each (λ x y. weightAt net t links x y ≡ least → bitOf after (cellAt rank x y) ≡ true)
+      every = each (λ x y. weightOfPlaces net t links x y ≡ least → bitOf after (cellAt rank x y) ≡ true)
           (λ x y m e. k _ ∙ or-left _ _ (h .every x y m e))
           (λ _. k (cellAt rank u v) ∙ or-right (bitOf table (cellAt rank u v)) _ (eq-eqb (cellAt rank u v) (cellAt rank u v) refl));
     }
       where
         marked : (q : ℕ) → (bitOf table q ≡ true) ⊎ (eqb q (cellAt rank u v) ≡ true)
-            → (x : ℕ) × (y : ℕ) × more x y × (weightAt net t links x y ≡ least) × (cellAt rank x y ≡ q)
+            → (x : ℕ) × (y : ℕ) × more x y × (weightOfPlaces net t links x y ≡ least) × (cellAt rank x y ≡ q)
         marked q (inl e) = let r = h .of q e in (r .0, r .1, to (r .0) (r .1) (r .2), r .3, r .4)
         marked q (inr e) = (u, v, new, l, sym (eqb-true q (cellAt rank u v) e))
 
-    ties-lighter : {after : List ℕ} → weightAt net t links u v < least → ((k : ℕ) → bitOf after k ≡ eqb k (cellAt rank u v))
-        → TiesAmong net t links rank more limit (weightAt net t links u v) after
+    ties-lighter : {after : List ℕ} → weightOfPlaces net t links u v < least → ((k : ℕ) → bitOf after k ≡ eqb k (cellAt rank u v))
+        → TiesAmong net t links rank more limit (weightOfPlaces net t links u v) after
     ties-lighter {after} l k = record {
       up-to = let b = h .up-to in omega arith;
-      lightest = each (λ x y. weightAt net t links u v ≤ weightAt net t links x y)
+      lightest = each (λ x y. weightOfPlaces net t links u v ≤ weightOfPlaces net t links x y)
           (λ x y m. let b = h .lightest x y m in omega arith) (omega arith);
       met = inr (u, v, new, refl);
       of = λ q e. (u, v, new, refl, sym (eqb-true q (cellAt rank u v) (sym (k q) ∙ e)));
-      every = each (λ x y. weightAt net t links x y ≡ weightAt net t links u v → bitOf after (cellAt rank x y) ≡ true)
+      every = each (λ x y. weightOfPlaces net t links x y ≡ weightOfPlaces net t links u v → bitOf after (cellAt rank x y) ≡ true)
           (λ x y m e. let b = h .lightest x y m in absurd (omega arith))
           (λ _. k (cellAt rank u v) ∙ eq-eqb (cellAt rank u v) (cellAt rank u v) refl);
     }
 
-    ties-more : {r : ℕ} {after : List ℕ} → TieKept table after (weightAt net t links u v) (cellAt rank u v) least r
+    ties-more : {r : ℕ} {after : List ℕ} → TieKept table after (weightOfPlaces net t links u v) (cellAt rank u v) least r
         → TiesAmong net t links rank more limit r after
-    ties-more {r} {after} k = go (three-ways (weightAt net t links u v) least)
+    ties-more {r} {after} k = go (three-ways (weightOfPlaces net t links u v) least)
       where
-        go : (weightAt net t links u v ≡ least) ⊎ ((weightAt net t links u v < least) ⊎ (least < weightAt net t links u v))
+        go : (weightOfPlaces net t links u v ≡ least) ⊎ ((weightOfPlaces net t links u v < least) ⊎ (least < weightOfPlaces net t links u v))
             → TiesAmong net t links rank more limit r after
         go (inl e) = let q : r ≡ least = let m = k .lesser in omega arith in rw q (ties-even e (k .even e))
-        go (inr (inl l)) = let q : r ≡ weightAt net t links u v = let m = k .lesser in omega arith in rw q (ties-lighter l (k .lighter l))
+        go (inr (inl l)) = let q : r ≡ weightOfPlaces net t links u v = let m = k .lesser in omega arith in rw q (ties-lighter l (k .lighter l))
         go (inr (inr l)) = let q : r ≡ least = let m = k .lesser in omega arith in rw q (ties-heavier l (k .heavier l))
 
 -- what was kept, of a weight and a cell that are those at two places
 pub tie-of : (net : Network) (t : Tree) (links rank : List ℕ) {before after : List ℕ} (u v : ℕ) {w q least r : ℕ}
-    → TieKept before after w q least r → w ≡ weightAt net t links u v → q ≡ cellAt rank u v
-    → TieKept before after (weightAt net t links u v) (cellAt rank u v) least r
+    → TieKept before after w q least r → w ≡ weightOfPlaces net t links u v → q ≡ cellAt rank u v
+    → TieKept before after (weightOfPlaces net t links u v) (cellAt rank u v) least r
 tie-of net t links rank {before} {after} u v {w} {q} {least} {r} k e c =
     subst (λ (x : ℕ). TieKept before after x (cellAt rank u v) least r) e (subst (λ (x : ℕ). TieKept before after w x least r) c k)
 
@@ -167,12 +167,12 @@ module _ {net : Network} {t : Tree} {links rank : List ℕ} {limit nodes least :
   -- the next pair, or the row's link alone
   pub ties-pair : (u v : ℕ) → 0 < u → u ≤ v → v < nodes → {after : List ℕ} {r : ℕ}
       → TiesAmong net t links rank (InRows nodes u v) limit least table
-      → TieKept table after (weightAt net t links u v) (cellAt rank u v) least r
+      → TieKept table after (weightOfPlaces net t links u v) (cellAt rank u v) least r
       → TiesAmong net t links rank (InRows nodes u (v + 1)) limit r after
   ties-pair u v z l b h k = ties-more (wider nodes u v) (z, l, b, inr (refl, omega arith)) (narrower nodes u v) h k
 
   -- a run of heavier ones
-  so-many : (u from n : ℕ) → 0 < u → u ≤ from → from + n ≤ nodes → ((v : ℕ) → from ≤ v → v < from + n → least < weightAt net t links u v)
+  so-many : (u from n : ℕ) → 0 < u → u ≤ from → from + n ≤ nodes → ((v : ℕ) → from ≤ v → v < from + n → least < weightOfPlaces net t links u v)
       → TiesAmong net t links rank (InRows nodes u from) limit least table
       → TiesAmong net t links rank (InRows nodes u (from + n)) limit least table
   so-many u from zero z l b w h = subst (λ (v : ℕ). TiesAmong net t links rank (InRows nodes u v) limit least table) (omega arith) h
@@ -181,7 +181,7 @@ module _ {net : Network} {t : Tree} {links rank : List ℕ} {limit nodes least :
       (ties-heavier (wider nodes u (from + n)) (z, omega arith, omega arith, inr (refl, omega arith)) (narrower nodes u (from + n))
       (so-many u from n z l (omega arith) (λ v a d. w v a (omega arith)) h) (w (from + n) (omega arith) (omega arith)) (λ k. refl))
 
-  pub ties-run : (u from to : ℕ) → 0 < u → u ≤ from → from ≤ to → to ≤ nodes → ((v : ℕ) → from ≤ v → v < to → least < weightAt net t links u v)
+  pub ties-run : (u from to : ℕ) → 0 < u → u ≤ from → from ≤ to → to ≤ nodes → ((v : ℕ) → from ≤ v → v < to → least < weightOfPlaces net t links u v)
       → TiesAmong net t links rank (InRows nodes u from) limit least table → TiesAmong net t links rank (InRows nodes u to) limit least table
   ties-run u from to z l a b w h =
       subst (λ (v : ℕ). TiesAmong net t links rank (InRows nodes u v) limit least table) (omega arith)

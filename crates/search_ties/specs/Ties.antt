@@ -2,7 +2,7 @@
 --   cellOf a b             the cell of two links of the ranks a and b, of one link where they are equal
 --   IsCellOf a b q         q is that cell, and the table has it
 --   cellAt rk x y          the cell of the links at two places, where rk has the rank at each place
---   weightAt net t l x y   the weight of the links at two places as a candidate, where l has the link at each place
+--   weightOfPlaces net t l x y   the weight of the links at two places as a candidate, where l has the link at each place
 --   InRows n u v x y       x and y are places but the root's of n, x no later than y, passed before row u, column v
 --   TieKept f g w q least r   f became g as one of the weight w, with the cell q, was met: the other bits are taken off
 --                          where it is lighter than `least`, its own is set where it is no heavier, and r is the lesser
@@ -42,8 +42,8 @@ pub record IsCellOf (a b q : ℕ) : Type 0 where
 abbrev pub cellAt : List ℕ → ℕ → ℕ → ℕ
 cellAt rank x y = cellOf (entry rank x) (entry rank y)
 
-abbrev pub weightAt : Network → Tree → List ℕ → ℕ → ℕ → ℕ
-weightAt net t links x y = weightOf net t (handleAt links x y)
+abbrev pub weightOfPlaces : Network → Tree → List ℕ → ℕ → ℕ → ℕ
+weightOfPlaces net t links x y = weightOf net t (handleAt links x y)
 
 abbrev pub InRows : ℕ → ℕ → ℕ → ℕ → ℕ → Type 0
 InRows nodes u v x y = (0 < x) × (x ≤ y) × (y < nodes) × passed u v x y
@@ -57,11 +57,11 @@ pub record TieKept (before after : List ℕ) (weight q least r : ℕ) : Type 0 w
 pub record TiesAmong (net : Network) (t : Tree) (links rank : List ℕ) (among : ℕ → ℕ → Type 0)
     (limit least : ℕ) (table : List ℕ) : Type 0 where
   pub up-to : least ≤ limit
-  pub lightest : (x y : ℕ) → among x y → least ≤ weightAt net t links x y
-  pub met : (least ≡ limit) ⊎ ((x : ℕ) × (y : ℕ) × among x y × (weightAt net t links x y ≡ least))
+  pub lightest : (x y : ℕ) → among x y → least ≤ weightOfPlaces net t links x y
+  pub met : (least ≡ limit) ⊎ ((x : ℕ) × (y : ℕ) × among x y × (weightOfPlaces net t links x y ≡ least))
   pub of : (q : ℕ) → bitOf table q ≡ true → (x : ℕ) × (y : ℕ) × among x y
-      × (weightAt net t links x y ≡ least) × (cellAt rank x y ≡ q)
-  pub every : (x y : ℕ) → among x y → weightAt net t links x y ≡ least
+      × (weightOfPlaces net t links x y ≡ least) × (cellAt rank x y ≡ q)
+  pub every : (x y : ℕ) → among x y → weightOfPlaces net t links x y ≡ least
       → bitOf table (cellAt rank x y) ≡ true
 
 -- ---- a whole tree

@@ -7,7 +7,7 @@ use mathlib.Core.Path.{_≡_}
 use mathlib.Core.List.{List}
 use lib.ListN.{length}
 use Rattle.cuts.specs.Limits.{mostNodes}
-use Rattle.arrays.specs.ByNode.{ByNode, starts, listed}
+use Rattle.arrays.specs.ByNode.{ByNode, starts, runs}
 use Rattle.tree_growth.specs.Runs.{Chosen}
 
 pub record Growable (fs ss ms : List ℕ) (count nodes : ℕ) : Type 0 where
@@ -23,4 +23,4 @@ pub record Queueable (order parents uplinks : List ℕ) (nodes : ℕ) (fs ss lis
   pub few-nodes : nodes ≤ mostNodes
   pub starts-there : mostNodes + 1 ≤ length lists
   pub links : List ℕ
-  pub by-node : ByNode fs ss links (starts lists) (listed lists) nodes
+  pub by-node : ByNode fs ss links (starts lists) (runs lists) nodes

@@ -13,7 +13,7 @@ ghost use Rattle.cuts.specs.Network.{Network, Tree};
 ghost use Rattle.cuts.specs.Candidate.{memberLinks};
 ghost use Rattle.arrays.specs.Links.{Held};
 ghost use Rattle.arrays.specs.Grown.{Given, GrownTree};
-ghost use Rattle.arrays.specs.ByNode.{ByNode, starts, listed};
+ghost use Rattle.arrays.specs.ByNode.{ByNode, starts, runs};
 ghost use Rattle.tree_growth.specs.Growing.{Growable, Queueable};
 
 // The numbers that list the members of a tree by node.
@@ -49,7 +49,7 @@ fn grow_queue(
     requires { ⌜ Queueable (now order) (now parents) (now uplinks) nodes (now firsts) (now seconds) (now lists) ⌝ }
     ensures { λ r. ⌜ ((net : Network) (t : Tree) → Held net (now (firsts .entry)) (now (seconds .entry)) nodes
         → ByNode (now (firsts .entry)) (now (seconds .entry)) (memberLinks net t)
-        (starts (now (lists .entry))) (listed (now (lists .entry))) nodes
+        (starts (now (lists .entry))) (runs (now (lists .entry))) nodes
         → GrownTree net t (now (order .exit)) (now (parents .exit)) (now (uplinks .exit)) r) ⌝ }
 {
     let head = &lists[0..STARTS];

@@ -23,7 +23,7 @@ use Rattle.cuts.proofs.FlagLaws.{either, flags-equal, clash}
 use Rattle.cuts.proofs.SumLaws.{allTo-at, table-length, table-at}
 use Rattle.cuts.proofs.ListLaws.{mem-at}
 use Rattle.arrays.specs.Lists.{entry}
-use Rattle.arrays.specs.ByNode.{linksAt, starts, listed, Indexed}
+use Rattle.arrays.specs.ByNode.{linksAt, starts, runs, Indexed}
 use Rattle.arrays.specs.Kept.{within, LinksAt, Kept}
 use Rattle.tree_rows.specs.Rows.{sumOver, crossing, paired}
 use Rattle.tree_rows.specs.Making.{Searchable, Searched}
@@ -148,7 +148,7 @@ kept = record {
     same p x = Bool·beq (flag (below small grown (entry links p)) x) (within p (entry stops p) (entry place x))
 
 -- the run of each node
-run : (x : ℕ) → x < 5 → slice (entry (starts lists) x) (entry (starts lists) (x + 1)) (listed lists) ≡ linksAt firsts seconds x (table 7 (λ k. k))
+run : (x : ℕ) → x < 5 → slice (entry (starts lists) x) (entry (starts lists) (x + 1)) (runs lists) ≡ linksAt firsts seconds x (table 7 (λ k. k))
 unfolding linksAt table
 run zero b = refl
 run (suc zero) b = refl

@@ -5,7 +5,7 @@ use Prim.Native.Nat.{ℕ}
 use native.Mathlib.Omega.{arith}
 use borrow.Author.Needs.{needs}
 use lib.ListN.{take}
-use Rattle.arrays.specs.ByNode.{ByNode, starts, listed}
+use Rattle.arrays.specs.ByNode.{ByNode, starts, runs}
 use Rattle.tree_growth.proofs.grow.Statement.{statement}
 use Rattle.tree_growth.proofs.grow.Tie as tie
 
@@ -48,7 +48,7 @@ returns c =
     let a = c .before .before .before .before .before .before .before .before .before .before .before .before .before .before .args in
     let l = c .before .before .before .before .before .before .before .before .before .list-by-node in
     c .before .before .before .grow-queue .ensures net t (p .held)
-    (subst (λ (ks : List ℕ). ByNode (a .firsts .now) (a .seconds .now) ks (starts (l .last .0)) (listed (l .last .0)) (a .nodes)) (p .members) (l .ensures))
+    (subst (λ (ks : List ℕ). ByNode (a .firsts .now) (a .seconds .now) ks (starts (l .last .0)) (runs (l .last .0)) (a .nodes)) (p .members) (l .ensures))
 
 pub grow-spec : {M : Type 1} → statement M
 grow-spec =

@@ -13,7 +13,7 @@ use borrow.Author.Tests.{eq-eqb, ne-eqb}
 use Rattle.arrays.specs.Lists.{entry}
 use Rattle.arrays.proofs.GrowthLaws.{growing-start}
 use Rattle.arrays.specs.Links.{Ending}
-use Rattle.arrays.specs.ByNode.{ByNode, starts, listed}
+use Rattle.arrays.specs.ByNode.{ByNode, starts, runs}
 use Rattle.tree_growth.proofs.EndsLaws.{run-known, far-in}
 use Rattle.tree_growth.proofs.QueueLaws.{Run, Row, queue-start, queue-most, queue-lacks, run-start, run-pass, run-step, run-end, grown-stuck, grown-done}
 use Rattle.tree_growth.proofs.grow_queue.Statement.{statement}
@@ -44,11 +44,11 @@ run c = c .before .before .before .before .before .before .before
 abbrev behind : List ℕ → List ℕ
 behind xs = take (length xs - 257) (drop 257 xs)
 
-behind-is : (xs : List ℕ) → behind xs ≡ listed xs
+behind-is : (xs : List ℕ) → behind xs ≡ runs xs
 behind-is xs = take-all (length xs - 257) (drop 257 xs) (let n = length-drop 257 xs in omega arith)
 
 -- the members by node, as they are lent
-lent : (xs : List ℕ) {fs ss ks : List ℕ} {nodes : ℕ} → ByNode fs ss ks (starts xs) (listed xs) nodes → ByNode fs ss ks (starts xs) (behind xs) nodes
+lent : (xs : List ℕ) {fs ss ks : List ℕ} {nodes : ℕ} → ByNode fs ss ks (starts xs) (runs xs) nodes → ByNode fs ss ks (starts xs) (behind xs) nodes
 lent xs {fs} {ss} {ks} {nodes} e = subst (λ (l : List ℕ). ByNode fs ss ks (starts xs) l nodes) (sym (behind-is xs)) e
 
 -- the node that is taken

@@ -11,7 +11,7 @@ use Rattle.cuts.specs.Sums.{only}
 use Rattle.cuts.specs.Limits.{mostNodes, mostLinks}
 use Rattle.arrays.specs.Lists.{entry}
 use Rattle.arrays.specs.Links.{firstEnds, secondEnds}
-use Rattle.arrays.specs.ByNode.{starts, listed}
+use Rattle.arrays.specs.ByNode.{starts, runs}
 use Rattle.tree_rows.proofs.RunLaws.{gives, run-links, run-few}
 use Rattle.tree_rows.proofs.AddLaws.{Adding, adding-start, adding-more, adding-done}
 use Rattle.tree_rows.proofs.add_links.Statement.{statement}
@@ -20,7 +20,7 @@ use Rattle.tree_rows.proofs.add_links.Tie as tie
 abbrev Inv-loop : tie.InvT-loop
 Inv-loop f₀ ends weights lists place x end i₀ f i =
     (length f ≡ mostNodes) × (i₀ ≤ i) × (i ≤ max i₀ end)
-    × Adding f₀ f (λ y j. gives (firstEnds ends) (secondEnds ends) weights place x y (entry (listed lists) j)) i₀ i end
+    × Adding f₀ f (λ y j. gives (firstEnds ends) (secondEnds ends) weights place x y (entry (runs lists) j)) i₀ i end
 
 abbrev μ-loop : tie.MeasureT-loop
 μ-loop f₀ ends weights lists place x end i₀ f i = end - i
@@ -29,7 +29,7 @@ abbrev μ-loop : tie.MeasureT-loop
 start-at : (lists : List ℕ) (y : ℕ) → y ≤ mostNodes → entry (starts lists) y ≡ entry lists y
 start-at lists y b = getD-take (mostNodes + 1) lists y 0 (omega arith)
 
-link-at : (lists : List ℕ) (j : ℕ) → entry (listed lists) j ≡ entry lists (mostNodes + 1 + j)
+link-at : (lists : List ℕ) (j : ℕ) → entry (runs lists) j ≡ entry lists (mostNodes + 1 + j)
 link-at lists j = getD-drop (mostNodes + 1) lists j 0
 
 -- where the function begins, from its first read
