@@ -7,7 +7,6 @@ use native.Mathlib.Omega.{arith}
 use lib.ListN.{length, getD, drop, length-append}
 use lib.Seq.{ext-getD, drop-append-seam, drop-append-add}
 use borrow.Author.Tests.{lt-ltb, le-ltb}
-use Rattle.cuts.specs.Sums.{table}
 use Rattle.cuts.specs.Network.{Network}
 use Rattle.cuts.specs.Cut.{Side}
 use Rattle.cuts.specs.Tree.{Sound}

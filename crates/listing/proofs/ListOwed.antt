@@ -16,7 +16,7 @@ use Rattle.cuts.proofs.ListLaws.{Each, at-mem, mem-at, each-at, at-each, each-o
 use Rattle.cuts.proofs.OrderLaws.{precedes-one-way, precedes-only}
 use Rattle.cuts.proofs.Least.{first-in}
 use Rattle.cuts.proofs.Demands.{reported-first, reported-precedes}
-use Rattle.listing.specs.Picks.{keep, fresh}
+use Rattle.listing.specs.Picks.{keep}
 use Rattle.listing.specs.Listing.{sameFlags, inOrder, listed, Opens, OwedList}
 use Rattle.listing.specs.Rounds.{isNew}
 use Rattle.listing.proofs.PickLaws.{fresh-in}

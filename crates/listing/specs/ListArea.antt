@@ -1,11 +1,11 @@
 -- The area of a list of sides, and the reading that a list asks (document 02, F-5), by the format. Assumes nothing.
---   listBytes ss             the bytes of the sides ss, those of a side area each, one side behind the other
---   sidesRead nodes k area   the first k sides that stand in such an area
---   areaLength net k         the bytes that the list of the network takes, in the order of the rank k
---   fitting f area net rest  the network, or refusal 19 where the area cannot hold its list
---   listReading f sheet area the network of the sheet, or the first refusal: the sheet's, or 19
---   sidesLeft f old r        an area that held `old`, where r was read: the list is written to its front if a network was
---   countLeft f r            the number of sides written, 0 after a refusal
+--   listBytes ss               the bytes of the sides ss, those of a side area each, one side behind the other
+--   sidesRead nodes k area     the first k sides that stand in such an area
+--   areaLength k net           the bytes that the list of the network takes, in the order of the rank k
+--   fitting f area net rest    the network, or refusal 19 where the area cannot hold its list
+--   listReading f sheet area   the network of the sheet, or the first refusal: the sheet's, or 19
+--   sidesLeft f old r          an area that held `old`, where r was read: the list is written to its front if a network was
+--   countLeft f r              the number of sides written, 0 after a refusal
 use Prim.Native.Nat.{ℕ, _*_}
 use mathlib.Core.List.{List, [], _∷_, _++_}
 use lib.ListN.{length, drop}
@@ -39,7 +39,7 @@ fitting f area net rest =
 
 -- "19 is returned, after every refusal of the sheet"
 unfoldable pub listReading : Format → Bytes → Bytes → Reading Network
-unfolding firstFailing decode fitting
+unfolding decode fitting
 listReading f sheet area = andThen (decode f sheet) (fitting f area)
 
 abbrev pub sidesLeft : Format → Bytes → Reading Network → Bytes

@@ -1,7 +1,7 @@
 -- What the entry for the list returns and leaves in the area, for every sheet and every area, by the format (document 02, F-5). Assumes
 -- nothing.
---   SidesListed f ..    all that the entry promises, where the area held `sides`, holds sides′ afterwards, `count` is the number of sides that it
---                  answers, and n is returned
+--   SidesListed f ..    all that the entry promises, where the area held `sides`, holds sides′ afterwards, `count` is the
+--                       number of sides that it answers, and n is returned
 use Prim.Native.Nat.{ℕ}
 use mathlib.Core.Path.{_≡_}
 use mathlib.Core.List.{[]}

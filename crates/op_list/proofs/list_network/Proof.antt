@@ -1,7 +1,6 @@
 -- `op_list::list_network` meets its contract: the sum of all counts is the number of sides in the list, so that an area has room for as many
 -- exactly where it is not refused. Assumes nothing.
 use borrow.Author.Needs.{needs}
-use Prim.Native.Nat.{ℕ}
 use mathlib.Core.Path.{_≡_, sym, ap, _∙_}
 use mathlib.Core.List.{[]}
 use native.Mathlib.Omega.{arith}

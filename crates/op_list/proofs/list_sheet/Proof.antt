@@ -1,7 +1,6 @@
 -- `op_list::list_sheet` meets its contract: what the sheet's reading says decides first, and of a network that was read the area's room.
 -- Assumes nothing.
 use borrow.Author.Needs.{needs}
-use Prim.Native.Nat.{ℕ}
 use mathlib.Core.Path.{_≡_, sym, ap, subst}
 use mathlib.Core.List.{[]}
 use native.Mathlib.Omega.{arith}
