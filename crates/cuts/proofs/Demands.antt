@@ -161,9 +161,13 @@ verdict-tells f w = (λ h. sym (eqb-true f w (whole (eqb f w) h)), λ h. rw (eq-
 verdict-else : (f w : ℕ) → (w ≡ f → ⊥) → verdictOf f w ≡ treesOnly
 verdict-else f w n = rw (ne-eqb f w (λ q. n (sym q)))
 
+-- some tree crosses the side at most twice: it shows the side
+abbrev pub Shown : Network → Side → Type 0
+Shown net s = (i : ℕ) × (i < length (net .trees)) × Respects net (treeAt net i) s
+
 module _ (net : Network) (v : Sound net) where
   -- some tree crosses the side at most twice, or all cross it three times
-  pub few-or-many : (s : Side) → ((i : ℕ) × (i < length (net .trees)) × (Respects net (treeAt net i) s)) ⊎ ((t : Tree) → List·Memᴰ t (net .trees) → 3 ≤ crossings net t s)
+  few-or-many : (s : Side) → Shown net s ⊎ ((t : Tree) → List·Memᴰ t (net .trees) → 3 ≤ crossings net t s)
   few-or-many s = step (truth (anyTo (length (net .trees)) few))
     where
       few : ℕ → Bool
@@ -176,10 +180,17 @@ module _ (net : Network) (v : Sound net) where
           go false q = refl
           go true q = clash (anyTo-at (length (net .trees)) few i b q) e
 
-      step : (anyTo (length (net .trees)) few ≡ true) ⊎ (anyTo (length (net .trees)) few ≡ false)
-          → ((i : ℕ) × (i < length (net .trees)) × (Respects net (treeAt net i) s)) ⊎ ((t : Tree) → List·Memᴰ t (net .trees) → 3 ≤ crossings net t s)
+      step : (anyTo (length (net .trees)) few ≡ true) ⊎ (anyTo (length (net .trees)) few ≡ false) → Shown net s ⊎ ((t : Tree) → List·Memᴰ t (net .trees) → 3 ≤ crossings net t s)
       step (inl e) = let r = anyTo-some (length (net .trees)) few e in inl (r .0, r .1, leb-true _ 2 (r .2))
       step (inr e) = inr (λ t m. let r = mem-at noTree m in subst (λ (u : Tree). 3 ≤ crossings net u s) (r .2) (many e (r .0) (r .1)))
+
+  -- a side that no tree shows weighs at least three times the shares of the trees that count
+  pub shown-or-heavy : (r : Counting) (cs : List Tree) → CountedBy r net (net .trees) cs → (s : Side) → Shown net s ⊎ (3 * shares cs ≤ cutWeight net s)
+  shown-or-heavy r cs counts s = step (few-or-many s)
+    where
+      step : Shown net s ⊎ ((t : Tree) → List·Memᴰ t (net .trees) → 3 ≤ crossings net t s) → Shown net s ⊎ (3 * shares cs ≤ cutWeight net s)
+      step (inl k) = inl k
+      step (inr k) = inr (packing net s 3 cs (counts-packed net (net .trees) r cs counts) (λ t m. k t (counts-listed net (net .trees) r cs counts t m)))
 
   pub some-candidate : (c : Candidate) × List·Memᴰ c (candidates net)
   unfolding memberCount
@@ -250,20 +261,11 @@ module _ (net : Network) (v : Sound net) where
     -- what the trees that count say of every cut
     pub floor-least : (r : Counting) (s : Side) → Proper net s → floor (counted r net (net .trees)) (c .weight) ≤ cutWeight net s
     unfolding floor
-    floor-least r s p = step (few-or-many s)
+    floor-least r s p = step (shown-or-heavy r (counted r net (net .trees)) (counted-counts net (net .trees) r) s)
       where
-        cs : List Tree
-        cs = counted r net (net .trees)
-
-        counts : CountedBy r net (net .trees) cs
-        counts = counted-counts net (net .trees) r
-
-        step : ((i : ℕ) × (i < length (net .trees)) × (Respects net (treeAt net i) s)) ⊎ ((t : Tree) → List·Memᴰ t (net .trees) → 3 ≤ crossings net t s)
-            → min (c .weight) (3 * shares cs) ≤ cutWeight net s
+        step : Shown net s ⊎ (3 * shares (counted r net (net .trees)) ≤ cutWeight net s) → min (c .weight) (3 * shares (counted r net (net .trees))) ≤ cutWeight net s
         step (inl k) = let l = light s p (k .0) (k .1) (k .2) in omega arith
-        step (inr k) =
-            let l = packing net s 3 cs (counts-packed net (net .trees) r cs counts) (λ t m. k t (counts-listed net (net .trees) r cs counts t m)) in
-            omega arith
+        step (inr h) = omega arith
 
     -- the first comes before every other, or they are even and it stands in front
     pub precedes : (d : Candidate) → List·Memᴰ d (candidates net) → (d ≡ c) ⊎ ((before c d ≡ true) ⊎ ((before d c ≡ false) × Earlier c d))
