@@ -10,7 +10,7 @@ use borrow.Author.Tests.{lt-ltb, le-ltb}
 use Rattle.cuts.specs.Network.{Network}
 use Rattle.cuts.specs.Cut.{Side}
 use Rattle.cuts.specs.Tree.{Sound}
-use Rattle.cuts.specs.Candidate.{Rank}
+use Rattle.cuts.specs.Answer.{Rules}
 use Rattle.cuts.specs.Limits.{mostNodes}
 use Rattle.cuts.proofs.SumLaws.{table-length, table-at}
 use Rattle.sheet.specs.Bytes.{Bytes}
@@ -83,9 +83,9 @@ module _ (nodes : ℕ) (few : nodes ≤ mostNodes) where
       table-at [] (length ss) _ i c ∙ side-at ss (drop (length (listBytes ss)) old) h i c)
 
 -- what is owed of the list is owed of what stands in the area
-module _ (rank : Rank) (net : Network) (v : Sound net) (by-sides : BySides net rank) (few : net .nodes ≤ mostNodes) where
-  pub sides-owed : (old : Bytes) → OwedList rank net (sidesRead (net .nodes) (length (listed rank net)) (written (listBytes (listed rank net)) old))
+module _ (r : Rules) (net : Network) (v : Sound net) (by-sides : BySides net (r .rank)) (few : net .nodes ≤ mostNodes) where
+  pub sides-owed : (old : Bytes) → OwedList r net (sidesRead (net .nodes) (length (listed (r .rank) net)) (written (listBytes (listed (r .rank) net)) old))
   sides-owed old =
-      subst (OwedList rank net)
-      (sym (sidesRead-written (net .nodes) few (listed rank net) old (λ s m. listed-is net v rank by-sides s .0 m .proper .sized)))
-      (listed-owed net v rank by-sides)
+      subst (OwedList r net)
+      (sym (sidesRead-written (net .nodes) few (listed (r .rank) net) old (λ s m. listed-is net v (r .rank) by-sides s .0 m .proper .sized)))
+      (listed-owed net v r by-sides)

@@ -1,26 +1,31 @@
 -- What is owed of the list, of the one that is defined and of no other: an entry's place is that of the first candidate of its side, and
--- the order of candidates goes one way.
+-- the order of candidates goes one way. A side that is missing from it crosses three members of every tree and weighs what the trees that
+-- count say.
 -- Assumes nothing.
-use Prim.Native.Nat.{ℕ, zero, suc, _<_}
+use Prim.Native.Nat.{ℕ, zero, suc, _*_, _≤_, _<_}
 use mathlib.Core.Path.{_≡_, refl, sym, ap, _∙_, subst}
-use mathlib.Core.Logic.{_⊎_, inl, inr}
+use mathlib.Core.Logic.{_⊎_, inl, inr, _↔_}
 use mathlib.Core.List.{List, [], map, List·Memᴰ, List·Memᴰ·not-nil, Memᴰ·map}
 use native.Mathlib.Omega.{arith}
 use lib.ListN.{length, getD, length-map, List·getD-map}
-use Rattle.cuts.specs.Network.{Network}
-use Rattle.cuts.specs.Cut.{Side}
+use Rattle.cuts.specs.Network.{Tree, Network}
+use Rattle.cuts.specs.Cut.{Side, Proper, Rootless, cutWeight}
 use Rattle.cuts.specs.Tree.{Sound}
 use Rattle.cuts.specs.Candidate.{Candidate, Rank, Precedes, candidates, noCandidate}
-use Rattle.cuts.specs.Answer.{reported}
+use Rattle.cuts.specs.Bound.{shares, Counting, CountedBy, counted}
+use Rattle.cuts.specs.Answer.{Rules, reported}
 use Rattle.cuts.proofs.ListLaws.{Each, at-mem, mem-at, each-at, at-each, each-only}
 use Rattle.cuts.proofs.OrderLaws.{precedes-one-way, precedes-only}
 use Rattle.cuts.proofs.Least.{first-in}
-use Rattle.cuts.proofs.Demands.{reported-first, reported-precedes}
+use Rattle.cuts.proofs.CountedLaws.{counted-counts}
+use Rattle.cuts.proofs.Demands.{Shown, shown-or-heavy, ahead-weighing, light, reported-first, reported-precedes}
 use Rattle.listing.specs.Picks.{keep}
-use Rattle.listing.specs.Listing.{sameFlags, inOrder, listed, Opens, OwedList}
+use Rattle.listing.specs.Listing.{sameFlags, inOrder, listed, Weak, Opens, OwedList}
 use Rattle.listing.specs.Rounds.{isNew}
 use Rattle.listing.proofs.PickLaws.{fresh-in}
 use Rattle.listing.proofs.ListingLaws.{BySides, sameFlags-tells, inOrder-in, listed-new, new-order, new-opens, listed-is, listed-once, listed-length}
+
+-- ---- the order of a list's sides
 
 module _ (net : Network) (rank : Rank) where
   opens-same : (c d : Candidate) → Opens rank net c → Opens rank net d → c .side ≡ d .side → c ≡ d
@@ -37,74 +42,107 @@ module _ (net : Network) (rank : Rank) where
       let y : d′ ≡ d = opens-same d′ d p′ p (b′ ∙ sym b) in
       precedes-one-way rank c d l (subst (λ (z : Candidate). Precedes rank z c) y (subst (Precedes rank d′) x m))
 
-  owed-met : (ss : List Side) → OwedList rank net ss → Each Met ss
-  unfolding Met
-  owed-met ss o = at-each Met [] ss (λ i j l b.
-      let c = o .met i (omega arith) in
-      let d = o .met j b in
-      (c .0, d .0, c .1, c .2, d .1, d .2, o .in-order i j l b (c .0) (d .0) (c .1) (c .2) (d .1) (d .2)))
+owed-met : (net : Network) (r : Rules) (ss : List Side) → OwedList r net ss → Each (Met net (r .rank)) ss
+unfolding Met
+owed-met net r ss o = at-each (Met net (r .rank)) [] ss (λ i j l b.
+    let c = o .met i (omega arith) in
+    let d = o .met j b in
+    (c .0, d .0, c .1, c .2, d .1, d .2, o .in-order i j l b (c .0) (d .0) (c .1) (c .2) (d .1) (d .2)))
 
-module _ (net : Network) (v : Sound net) (rank : Rank) (by-sides : BySides net rank) where
-  pub listed-owed : OwedList rank net (listed rank net)
+-- ---- when the list is complete
+
+module _ (net : Network) (v : Sound net) (counting : Counting) (cs : List Tree) (counts : CountedBy counting net (net .trees) cs) where
+  -- where three times the shares of the trees that count exceed a weight, a list of all sides of that weight that some tree shows is one of
+  -- all sides of that weight
+  complete : {w : ℕ} {ss : List Side} → ((s : Side) → List·Memᴰ s ss ↔ Weak net w s) → w < 3 * shares cs
+      → (s : Side) → Proper net s → Rootless net s → cutWeight net s ≡ w → List·Memᴰ s ss
+  complete {w} {ss} holds l s p q e = step (shown-or-heavy net v counting cs counts s)
+    where
+      step : Shown net s ⊎ (3 * shares cs ≤ cutWeight net s) → List·Memᴰ s ss
+      step (inl k) = holds s .1 (record { proper = p; rootless = q; weighs = e; respects = k })
+      step (inr h) = absurd (omega arith)
+
+  -- and where they reach the reported weight no side is lighter
+  none-lighter : (rank : Rank) → reported rank net .weight ≤ 3 * shares cs → (s : Side) → Proper net s → reported rank net .weight ≤ cutWeight net s
+  none-lighter rank l s p = step (shown-or-heavy net v counting cs counts s)
+    where
+      step : Shown net s ⊎ (3 * shares cs ≤ cutWeight net s) → reported rank net .weight ≤ cutWeight net s
+      step (inl k) = light net v (ahead-weighing rank) (reported rank net) (reported-first net v rank) s p (k .0) (k .1) (k .2)
+      step (inr h) = omega arith
+
+-- ---- what is owed
+
+module _ (net : Network) (v : Sound net) (r : Rules) (by-sides : BySides net (r .rank)) where
+  pub listed-owed : OwedList r net (listed (r .rank) net)
   listed-owed = record {
-    holds = listed-is net v rank by-sides;
-    once = listed-once net v rank by-sides;
+    holds = listed-is net v (r .rank) by-sides;
+    once = listed-once net v (r .rank) by-sides;
     met = λ i b. (at i, opens i (rw length-by at b), sym (side-at i));
-    in-order = λ i j l b c d o q p r.
+    in-order = λ i j l b c d o q p e.
         let k : j < length by = rw length-by at b in
-        let x : c ≡ at i = opens-same net rank c (at i) o (opens i (omega arith)) (q ∙ side-at i) in
-        let y : d ≡ at j = opens-same net rank d (at j) p (opens j k) (r ∙ side-at j) in
-        let z : Precedes rank (at i) (at j) = each-at (Precedes rank) noCandidate by (new-order net v rank by-sides) i j l k in
-        subst (λ (e : Candidate). Precedes rank e d) (sym x) (subst (Precedes rank (at i)) (sym y) z);
-    number = listed-length net v rank by-sides;
+        let x : c ≡ at i = opens-same net (r .rank) c (at i) o (opens i (omega arith)) (q ∙ side-at i) in
+        let y : d ≡ at j = opens-same net (r .rank) d (at j) p (opens j k) (e ∙ side-at j) in
+        let z : Precedes (r .rank) (at i) (at j) = each-at (Precedes (r .rank)) noCandidate by (new-order net v (r .rank) by-sides) i j l k in
+        subst (λ (a : Candidate). Precedes (r .rank) a d) (sym x) (subst (Precedes (r .rank) (at i)) (sym y) z);
+    number = listed-length net v (r .rank) by-sides;
+    counted = cs;
+    counts = counts;
+    complete = λ more. complete net v (r .counting) cs counts (listed-is net v (r .rank) by-sides) (omega arith);
+    none-lighter = λ enough. none-lighter net v (r .counting) cs counts (r .rank) (omega arith);
   }
     where
+      cs : List Tree
+      cs = counted (r .counting) net (net .trees)
+
+      counts : CountedBy (r .counting) net (net .trees) cs
+      counts = counted-counts net (net .trees) (r .counting)
+
       by : List Candidate
-      by = keep (isNew net) (inOrder rank net)
+      by = keep (isNew net) (inOrder (r .rank) net)
 
       at : ℕ → Candidate
       at i = getD by i noCandidate
 
-      length-by : length (listed rank net) ≡ length by
-      length-by = ap (λ (ss : List Side). length ss) (listed-new net v rank by-sides) ∙ length-map by (λ c. c .side)
+      length-by : length (listed (r .rank) net) ≡ length by
+      length-by = ap (λ (ss : List Side). length ss) (listed-new net v (r .rank) by-sides) ∙ length-map by (λ c. c .side)
 
-      side-at : (i : ℕ) → getD (listed rank net) i [] ≡ at i .side
-      side-at i = ap (λ (ss : List Side). getD ss i []) (listed-new net v rank by-sides) ∙ List·getD-map (λ (c : Candidate). c .side) by i noCandidate
+      side-at : (i : ℕ) → getD (listed (r .rank) net) i [] ≡ at i .side
+      side-at i = ap (λ (ss : List Side). getD ss i []) (listed-new net v (r .rank) by-sides) ∙ List·getD-map (λ (c : Candidate). c .side) by i noCandidate
 
-      opens : (i : ℕ) → i < length by → Opens rank net (at i)
-      opens i b = new-opens net v rank by-sides (at i) (at-mem noCandidate by i b)
+      opens : (i : ℕ) → i < length by → Opens (r .rank) net (at i)
+      opens i b = new-opens net v (r .rank) by-sides (at i) (at-mem noCandidate by i b)
 
   -- no other list is owed the same
-  pub owed-listed : (ss : List Side) → OwedList rank net ss → ss ≡ listed rank net
+  pub owed-listed : (ss : List Side) → OwedList r net ss → ss ≡ listed (r .rank) net
   owed-listed ss o =
       let p = listed-owed in
-      each-only (Met net rank) (met-one-way net rank) ss (listed rank net) (owed-met net rank ss o) (owed-met net rank (listed rank net) p)
+      each-only (Met net (r .rank)) (met-one-way net (r .rank)) ss (listed (r .rank) net) (owed-met net r ss o) (owed-met net r (listed (r .rank) net) p)
       (λ s. (λ m. p .holds s .1 (o .holds s .0 m), λ m. o .holds s .1 (p .holds s .0 m)))
 
   -- the list begins with the reported side
-  pub owed-first : (ss : List Side) → OwedList rank net ss → getD ss 0 [] ≡ reported rank net .side
+  pub owed-first : (ss : List Side) → OwedList r net ss → getD ss 0 [] ≡ reported (r .rank) net .side
   unfolding listed
-  owed-first ss o = go (mem-at [] (o .holds (best .side) .1 (listed-is net v rank by-sides (best .side) .0 inside)))
+  owed-first ss o = go (mem-at [] (o .holds (best .side) .1 (listed-is net v (r .rank) by-sides (best .side) .0 inside)))
     where
       best : Candidate
-      best = reported rank net
+      best = reported (r .rank) net
 
       among : List·Memᴰ best (candidates net)
-      among = first-in (reported-first net v rank)
+      among = first-in (reported-first net v (r .rank))
 
-      inside : List·Memᴰ (best .side) (listed rank net)
-      inside = fresh-in sameFlags sameFlags-tells [] (map (λ c. c .side) (inOrder rank net)) (Memᴰ·map (λ c. c .side) (inOrder-in net v rank by-sides best among refl)) (λ m. List·Memᴰ·not-nil m)
+      inside : List·Memᴰ (best .side) (listed (r .rank) net)
+      inside = fresh-in sameFlags sameFlags-tells [] (map (λ c. c .side) (inOrder (r .rank) net)) (Memᴰ·map (λ c. c .side) (inOrder-in net v (r .rank) by-sides best among refl)) (λ m. List·Memᴰ·not-nil m)
 
-      opens : Opens rank net best
-      opens = record { listed = among; first = λ d m q. reported-precedes net v rank d m }
+      opens : Opens (r .rank) net best
+      opens = record { listed = among; first = λ d m q. reported-precedes net v (r .rank) d m }
 
       go : (i : ℕ) × (i < length ss) × (getD ss i [] ≡ best .side) → getD ss 0 [] ≡ best .side
       go (zero, b, e) = e
       go (suc i, b, e) =
           let c = o .met 0 (omega arith) in
           let l = o .in-order 0 (suc i) (omega arith) b (c .0) best (c .1) (c .2) opens (sym e) in
-          absurd (earlier (c .0) l (reported-precedes net v rank (c .0) (c .1 .listed)))
+          absurd (earlier (c .0) l (reported-precedes net v (r .rank) (c .0) (c .1 .listed)))
         where
-          earlier : (c : Candidate) → Precedes rank c best → (c ≡ best) ⊎ Precedes rank best c → ⊥
-          earlier c l (inl q) = let k = subst (λ (d : Candidate). Precedes rank d best) q l in precedes-one-way rank best best k k
-          earlier c l (inr m) = precedes-one-way rank c best l m
+          earlier : (c : Candidate) → Precedes (r .rank) c best → (c ≡ best) ⊎ Precedes (r .rank) best c → ⊥
+          earlier c l (inl q) = let k = subst (λ (d : Candidate). Precedes (r .rank) d best) q l in precedes-one-way (r .rank) best best k k
+          earlier c l (inr m) = precedes-one-way (r .rank) c best l m

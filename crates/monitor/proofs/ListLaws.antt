@@ -42,7 +42,7 @@ pub list-promised : (sheet sides : Bytes) {sides′ : Bytes} {count n : ℕ} →
     → SidesListed current sheet sides sides′ count n
 list-promised sheet sides {sides′} {count} {n} w = record { number = w .number; count-is = w .count-is; sides-is = w .sides-is; owed = owed }
   where
-    owed : n ≡ 0 → (net : Network) × (decode current sheet ≡ accepted net []) × OwedList fewerNodes net (sidesRead (net .nodes) count sides′)
+    owed : n ≡ 0 → (net : Network) × (decode current sheet ≡ accepted net []) × OwedList (current .rules) net (sidesRead (net .nodes) count sides′)
     owed z =
         let a = list-accepted current sheet sides (sym (w .number) ∙ z) in
         let net = a .0 in
@@ -51,7 +51,7 @@ list-promised sheet sides {sides′} {count} {n} w = record { number = w .number
         let s : sides′ ≡ written (listBytes (listed fewerNodes net)) sides = w .sides-is ∙ ap (sidesLeft current sides) (a .2) in (
           net,
           a .1,
-          subst (λ (m : ℕ). OwedList fewerNodes net (sidesRead (net .nodes) m sides′)) (sym k)
-              (subst (λ (bs : Bytes). OwedList fewerNodes net (sidesRead (net .nodes) (length (listed fewerNodes net)) bs)) (sym s)
-              (sides-owed fewerNodes net (good .sound) (fewerNodes-by-sides net (good .sound)) (good .nodes-most) sides)),
+          subst (λ (m : ℕ). OwedList (current .rules) net (sidesRead (net .nodes) m sides′)) (sym k)
+              (subst (λ (bs : Bytes). OwedList (current .rules) net (sidesRead (net .nodes) (length (listed fewerNodes net)) bs)) (sym s)
+              (sides-owed (current .rules) net (good .sound) (fewerNodes-by-sides net (good .sound)) (good .nodes-most) sides)),
         )

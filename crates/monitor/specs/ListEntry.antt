@@ -1,5 +1,5 @@
--- What the entry for the list returns and leaves in the area, for every sheet and every area, by the format (document 02, F-5). Assumes
--- nothing.
+-- What the entry for the list returns and leaves in the area, for every sheet and every area, by the format (document 02, F-5 and
+-- F-14). Assumes nothing.
 --   SidesListed f ..    all that the entry promises, where the area held `sides`, holds sides′ afterwards, `count` is the
 --                       number of sides that it answers, and n is returned
 use Prim.Native.Nat.{ℕ}
@@ -20,4 +20,4 @@ pub record SidesListed (f : Format) (sheet sides sides′ : Bytes) (count n : �
   -- "If the area cannot hold them all, nothing is written"; "Bytes past the last side are untouched"
   pub sides-is : sides′ ≡ sidesLeft f sides (listReading f sheet sides)
   -- what is owed of the list, of the network that the sheet gives and of the sides that are read back from the area
-  pub owed : n ≡ 0 → (net : Network) × (decode f sheet ≡ accepted net []) × OwedList (f .rules .rank) net (sidesRead (net .nodes) count sides′)
+  pub owed : n ≡ 0 → (net : Network) × (decode f sheet ≡ accepted net []) × OwedList (f .rules) net (sidesRead (net .nodes) count sides′)
