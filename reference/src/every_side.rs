@@ -1,6 +1,10 @@
 //! The answer of a small network by every side, and the demands on the reported numbers, checked side by side. A side is a number
 //! whose bit k is node k.
 
+mod complete;
+
+pub use complete::{check_list, Beside};
+
 use crate::cuts::{Answer, Candidate, TREES_ONLY, WHOLE};
 use crate::network::{Network, Tree};
 use std::cmp::Ordering;
@@ -75,13 +79,18 @@ fn floor_of(trees: &[Tree], weight: u64) -> u64 {
     }
 }
 
-/// The floor that request F-3 has for a reported weight. Runs from tree 0 on are tried from all trees down.
-fn floor(network: &Network, weight: u64) -> u64 {
+/// The trees that count by request F-3. Runs from tree 0 on are tried from all trees down.
+fn counted(network: &Network) -> &[Tree] {
     let mut run = &network.trees[..];
     while overload(network, run) {
         run = &run[..run.len() - 1];
     }
-    floor_of(run, weight)
+    run
+}
+
+/// The floor that request F-3 has for a reported weight.
+fn floor(network: &Network, weight: u64) -> u64 {
+    floor_of(counted(network), weight)
 }
 
 /// The answer of a sound network of at most [`MOST_NODES`] nodes.

@@ -3,6 +3,7 @@
 mod runs;
 mod ties;
 mod trunks;
+mod unshown;
 
 pub use trunks::{contents, with_trunks};
 
@@ -51,6 +52,9 @@ pub enum Feature {
     LaterTree,
     /// The same, and all trees show another side of its weight, of more nodes in some networks, of as many or fewer in others.
     OtherSize,
+    /// A side that no tree shows weighs three times the shares of the trees that count, or 1 more. The reported side weighs as much as
+    /// these shares, 1 less or 1 more.
+    Unshown,
     /// The first, a middle or the last tree ends the run of those that count, most often with a load one above its link's weight.
     RunEnds,
     /// The same with weights and shares up to the greatest.
@@ -63,7 +67,7 @@ pub enum Feature {
     Complete,
 }
 
-pub const FEATURES: [Feature; 17] = [
+pub const FEATURES: [Feature; 18] = [
     Feature::Any,
     Feature::Ties,
     Feature::WeightZero,
@@ -76,6 +80,7 @@ pub const FEATURES: [Feature; 17] = [
     Feature::HeavyLinks,
     Feature::LaterTree,
     Feature::OtherSize,
+    Feature::Unshown,
     Feature::RunEnds,
     Feature::WideRun,
     Feature::EqualWeights,
@@ -98,6 +103,7 @@ impl Feature {
             Feature::HeavyLinks => "heavy links",
             Feature::LaterTree => "a later tree shows the lightest",
             Feature::OtherSize => "a later tree shows another size",
+            Feature::Unshown => "three shares at an unshown side",
             Feature::RunEnds => "a tree ends the run",
             Feature::WideRun => "a tree ends the run, wide shares",
             Feature::EqualWeights => "equal weights",
@@ -111,6 +117,7 @@ impl Feature {
         match self {
             Feature::LaterTree => Size::new(4, 5, 2),
             Feature::OtherSize => Size::new(5, 6, 2),
+            Feature::Unshown => Size::new(5, 6, 1),
             Feature::RunEnds | Feature::WideRun => Size::new(2, 1, 3),
             _ => Size::new(2, 1, 1),
         }
@@ -154,9 +161,10 @@ fn more_links(random: &mut Random, nodes: usize) -> usize {
 /// A sound network of that size.
 pub fn network(random: &mut Random, size: Size, feature: Feature) -> Network {
     let mut network = match feature {
+        Feature::Unshown => return unshown::network(random, size),
         Feature::LaterTree => with_light_side(random, size, 0),
         Feature::OtherSize => {
-            let hung = random.between(1, size.nodes - Feature::LaterTree.least_nodes());
+            let hung = some_hung(random, size);
             with_light_side(random, size, hung)
         }
         _ => {
@@ -444,22 +452,39 @@ fn light_side_ends(random: &mut Random, size: Size, hung: usize) -> Vec<(usize, 
     ends
 }
 
+/// How many nodes of a network with a light side hang by a link, where some do.
+fn some_hung(random: &mut Random, size: Size) -> usize {
+    random.between(1, size.nodes - Feature::LaterTree.least_nodes())
+}
+
 /// A network with one light side, or another one of its weight if so many nodes hang by a link. The first trees hold all three links
 /// across the light side, the later ones a single one.
 fn with_light_side(random: &mut Random, size: Size, hung: usize) -> Network {
-    let ends = light_side_ends(random, size, hung);
-    let mut places: Vec<usize> = (0..ends.len()).collect();
-    random.shuffle(&mut places);
     let light = [0; LIGHT_LINKS].map(|_| random.below(4) as u64);
-    let mut network = without_trees(size.nodes, &ends, &places, |place| match place {
-        0..LIGHT_LINKS => light[place],
-        LIGHT_LINKS if hung > 0 => light.iter().sum(),
-        _ => random.between(100, 200) as u64,
-    });
     let hiding = match random.once_in(2) {
         true => size.trees - 1,
         false => random.between(1, size.trees - 1),
     };
+    hiding_side(random, size, hung, hiding, |random, place| match place {
+        0..LIGHT_LINKS => light[place],
+        LIGHT_LINKS if hung > 0 => light.iter().sum(),
+        _ => random.between(100, 200) as u64,
+    })
+}
+
+/// A network with the links of [`light_side_ends`], weighed by place, and trees without shares. So many first trees hold all three links
+/// across the side, the later ones a single one.
+fn hiding_side(
+    random: &mut Random,
+    size: Size,
+    hung: usize,
+    hiding: usize,
+    mut weight: impl FnMut(&mut Random, usize) -> u64,
+) -> Network {
+    let ends = light_side_ends(random, size, hung);
+    let mut places: Vec<usize> = (0..ends.len()).collect();
+    random.shuffle(&mut places);
+    let mut network = without_trees(size.nodes, &ends, &places, |place| weight(random, place));
     for tree in 0..size.trees {
         let mut order: Vec<usize> = (0..ends.len()).collect();
         random.shuffle(&mut order);
