@@ -1,7 +1,9 @@
 //! Holds what the entries and both programs answer against what is expected, and counts.
 
+mod complete;
 mod list;
 
+pub use complete::Completeness;
 pub use list::Lists;
 
 use std::fmt;
@@ -195,6 +197,7 @@ pub struct Judge {
     pub trunked: Trunked,
     pub before: Before,
     pub lists: Lists,
+    pub completeness: Completeness,
 }
 
 impl Judge {
@@ -213,6 +216,7 @@ impl Judge {
             trunked: Trunked::default(),
             before: Before::default(),
             lists: Lists::default(),
+            completeness: Completeness::default(),
         }
     }
 
@@ -256,7 +260,7 @@ impl Judge {
             (short, "an area that is too short for a list"),
             (short_and_refused, "a refused sheet with an area that is too short for any list"),
         ];
-        match counts.into_iter().find(|(count, _)| *count == 0) {
+        match counts.into_iter().chain(self.completeness.needed()).find(|(count, _)| *count == 0) {
             None => Ok(()),
             Some((_, lacking)) => Err(Stop::Lacks(lacking)),
         }

@@ -15,7 +15,7 @@ use std::path::PathBuf;
 use std::process::ExitCode;
 use std::time::{SystemTime, UNIX_EPOCH};
 
-use judge::{Before, Judge, Judged, Lists, Programs, Runs, Stop, Trunked};
+use judge::{Before, Completeness, Judge, Judged, Lists, Programs, Runs, Stop, Trunked};
 use networks::Counts;
 use reference::random::Random;
 
@@ -102,6 +102,7 @@ fn print_table(judge: &Judge) {
     println!("another floor than by the rule of units already sold: {floor}, another verdict: {verdict}");
     println!("another side than by their order: {same_tree} of the same tree, {other_tree} of another");
     print_lists(&judge.lists);
+    print_completeness(&judge.completeness);
     println!(
         "networks: {} by every side too, {} in a longer sheet than the shortest",
         judge.by_every_side, judge.longer
@@ -112,6 +113,16 @@ fn print_lists(lists: &Lists) {
     let Lists { written, several, of_several_trees, many: _, sides, longest, short, short_and_refused } = lists;
     println!("lists: {written} of {sides} sides, {several} of several, {of_several_trees} with sides of several trees");
     println!("the longest list: {longest} sides; areas too short: {short} refused with 19, {short_and_refused} for the sheet");
+}
+
+fn print_completeness(completeness: &Completeness) {
+    let Completeness { above, one_above, equal, equal_missing, .. } = completeness;
+    println!("every side against the list, three shares above its weight: {above}, by 1: {one_above}");
+    println!("equal to it: {equal}, with a side of the weight missing: {equal_missing}");
+    let Completeness { below, one_below, one_below_missing, one_below_lighter, .. } = completeness;
+    println!(
+        "below it: {below}, by 1: {one_below}, of these with a side missing: {one_below_missing}, with a lighter one: {one_below_lighter}"
+    );
 }
 
 fn main() -> ExitCode {

@@ -112,7 +112,7 @@ pub fn judged(judge: &mut Judge, random: &mut Random, network: Network, through:
     judge.expect(&sheet, &Ok(answers), through)
 }
 
-/// The same answer and the same list by every side, and the demands on the answer.
+/// The same answer and the same list by every side, the demands on the answer, and what request F-14 promises of the list.
 fn by_every_side(judge: &mut Judge, network: &Network, sheet: &[u8], answers: &Answers) -> Judged {
     judge.by_every_side += 1;
     let Answers { current: answer, list, .. } = answers;
@@ -127,8 +127,11 @@ fn by_every_side(judge: &mut Judge, network: &Network, sheet: &[u8], answers: &A
         return judge.differs(sheet, report::lines(&Ok(expected)), got + "by the reference's component search\n");
     }
     let demands = every_side::check_demand(network, answer).and(every_side::check_candidates(network));
-    if let Err(broken) = demands {
-        return judge.differs(sheet, "what the documents demand of every side\n".to_string(), broken + "\n");
+    match demands.and(every_side::check_list(network, &list.sides)) {
+        Ok(beside) => {
+            judge.completeness.count(&beside);
+            Ok(())
+        }
+        Err(broken) => judge.differs(sheet, "what the documents demand of every side\n".to_string(), broken + "\n"),
     }
-    Ok(())
 }
