@@ -1,13 +1,14 @@
-//! The report program's lines read back, what they mean in plain words, and the lines of a list.
+//! The report program's lines read back, what they mean in plain words, and the lines of a list with what is known of other cuts.
 
 mod cut;
+mod list;
 #[cfg(test)]
 mod tests;
 
-pub use cut::list_lines;
+pub use list::list_lines;
 
 use crate::cuts::{self, Answer, Candidate};
-use crate::network::{Link, Network};
+use crate::network::{Link, Network, Tree};
 use crate::report;
 use crate::sheet::{Place, Refusal, LEAST_NODES, MOST_LINKS, MOST_NODES, MOST_TREES};
 
@@ -137,8 +138,7 @@ fn contradiction(network: &Network, answer: &Answer) -> Option<&'static str> {
     if !whole && !trees_only {
         return Some("verdict, weight and floor do not go together");
     }
-    let counted = run_end(network).map_or(&network.trees[..], |end| &network.trees[..end.tree]);
-    if *floor != candidate.weight.min(cuts::three_shares(counted)) {
+    if *floor != candidate.weight.min(cuts::three_shares(counted(network))) {
         return Some("the trees that count give another floor");
     }
     None
@@ -170,20 +170,25 @@ fn promise(network: &Network, answer: &Answer) -> String {
         return "No cut of the whole network weighs less.".to_string();
     }
     let lightest = "No cut that the listed trees show is lighter";
-    let rest = "the whole network may hold one, but none that weighs less than";
+    unshown(network, answer.floor, lightest, "the whole network may hold one")
+}
+
+/// What is known of the cuts that the listed trees show, then what there may be beside them, where none weighs less than the floor.
+fn unshown(network: &Network, floor: u64, known: &str, may_hold: &str) -> String {
+    let rest = format!("{may_hold}, but none that weighs less than {floor}");
     let unknown = "nothing is known of the cuts that no tree shows";
-    match (answer.floor, run_end(network)) {
-        (0, None) => format!("{lightest}. All shares are 0, so {unknown}."),
+    match (floor, run_end(network)) {
+        (0, None) => format!("{known}. All shares are 0, so {unknown}."),
         (0, Some(end)) => {
             let and = match end.tree {
                 0 => " and",
                 1 => "; its share is 0, and",
                 _ => "; their shares are 0, and",
             };
-            format!("{lightest}. {}{and} {unknown}.", end.reason(network))
+            format!("{known}. {}{and} {unknown}.", end.reason(network))
         }
-        (floor, None) => format!("{lightest}; {rest} {floor}."),
-        (floor, Some(end)) => format!("{lightest}; {rest} {floor}. {}.", end.reason(network)),
+        (_, None) => format!("{known}; {rest}."),
+        (_, Some(end)) => format!("{known}; {rest}. {}.", end.reason(network)),
     }
 }
 
@@ -202,6 +207,11 @@ fn run_end(network: &Network) -> Option<RunEnd> {
         let (link, load) = loads.find(|&(link, load)| load > network.links[link].weight)?;
         Some(RunEnd { tree, link, load })
     })
+}
+
+/// The trees that count.
+fn counted(network: &Network) -> &[Tree] {
+    run_end(network).map_or(&network.trees[..], |end| &network.trees[..end.tree])
 }
 
 impl RunEnd {

@@ -3,7 +3,11 @@
 mod command;
 
 use command::network;
+use reference::cuts::{self, Counting};
+use reference::network::Network;
+use reference::report::Side;
 use reference::{every_side, list, text};
+use std::cmp::Ordering;
 use std::path::{Path, PathBuf};
 
 fn example(name: &str) -> PathBuf {
@@ -27,9 +31,29 @@ fn numbers(link: &str) -> [u64; 3] {
     numbers.try_into().expect("two ends and a weight")
 }
 
-/// The lines that a text must have, counted from its own lines: the links that cross a side are those of its nodes, but for the links
-/// that are met at both ends.
-fn lines(text: &str, sides: &[Vec<usize>]) -> String {
+/// How the second line of a list must begin. Small networks are looked at by every side.
+fn others(network: &Network, sides: &[Side], weight: u64) -> &'static str {
+    let shares = match network.nodes <= every_side::MOST_NODES {
+        true => every_side::check_list(network, sides).expect("a list that keeps its promise").shares,
+        false => cuts::three_shares(cuts::counted(Counting::LongestRun, network)).cmp(&weight),
+    };
+    match shares {
+        Ordering::Greater => "The list is complete: ",
+        Ordering::Equal => "No cut of the whole network weighs less. Others that no tree shows may weigh ",
+        Ordering::Less => "No cut that the listed trees show is lighter, and all of theirs of this weight are listed",
+    }
+}
+
+/// The lines of a list but for the second, and the second.
+fn second_apart(printed: &str) -> Option<(String, &str)> {
+    let (head, rest) = printed.split_once('\n')?;
+    let (second, sides) = rest.split_once('\n')?;
+    Some((format!("{head}\n{sides}"), second))
+}
+
+/// The lines that a text must have but for the second, and the weight, counted from its own lines: the links that cross a side are those
+/// of its nodes, but for the links that are met at both ends.
+fn lines(text: &str, sides: &[Vec<usize>]) -> (String, u64) {
     let links = links(text);
     let mut lines = String::new();
     let mut weights = Vec::new();
@@ -46,7 +70,7 @@ fn lines(text: &str, sides: &[Vec<usize>]) -> String {
         lines.push_str(&format!("side{nodes} links{crossed}\n"));
     }
     assert!(weights.iter().all(|weight| *weight == weights[0]), "{weights:?}");
-    format!("sides {} weight {}\n{lines}", sides.len(), weights[0])
+    (format!("sides {} weight {}\n{lines}", sides.len(), weights[0]), weights[0])
 }
 
 #[test]
@@ -70,15 +94,21 @@ fn every_example_has_its_sides_with_the_links_that_cross_them() {
             false => list::by_candidates(&contents.network),
         };
         let sides: Vec<Vec<usize>> = list.sides.iter().map(list::nodes).collect();
-        assert_eq!(list_of(&file), (Some(0), lines(&text, &sides), String::new()), "{}", file.display());
+        let (expected, weight) = lines(&text, &sides);
+        let (status, printed, errors) = list_of(&file);
+        assert_eq!((status, errors), (Some(0), String::new()), "{}", file.display());
+        let (printed, second) = second_apart(&printed).expect("two lines");
+        assert_eq!(printed, expected, "{}", file.display());
+        assert!(second.starts_with(others(&contents.network, &list.sides, weight)), "{}: {second}", file.display());
         listed += 1;
     }
-    assert!(listed >= 18);
+    assert!(listed >= 19);
 }
 
 #[test]
 fn a_ring_of_four_has_six_sides() {
     let expected = "sides 6 weight 2\n\
+                    The list is complete: no other cut of the whole network weighs 2, and none weighs less.\n\
                     side 1 links 0 0-1:1 1 1-2:1\n\
                     side 2 links 1 1-2:1 2 2-3:1\n\
                     side 3 links 2 2-3:1 3 3-0:1\n\
@@ -90,10 +120,34 @@ fn a_ring_of_four_has_six_sides() {
     assert_eq!(network(&["list"], &ring), (Some(0), expected.as_bytes().to_vec(), String::new()));
 }
 
+/// The side of switches 1, 2 and 3 weighs 3 too, and the star around node 0 does not show it.
+#[test]
+fn a_side_of_the_same_weight_may_be_missing() {
+    let expected = "sides 3 weight 3\n\
+                    No cut of the whole network weighs less. Others that no tree shows may weigh 3 too, since three times the shares \
+                    that count is 3 and not more.\n\
+                    side 1 links 0 0-1:1 3 1-2:1 4 1-3:1\n\
+                    side 2 links 1 0-2:1 3 1-2:1 5 2-3:1\n\
+                    side 3 links 2 0-3:1 4 1-3:1 5 2-3:1\n";
+    assert_eq!(list_of(&example("missing-cut.net")), (Some(0), expected.to_string(), String::new()));
+}
+
+#[test]
+fn a_lighter_cut_may_be_hidden() {
+    let expected = "sides 2 weight 11\n\
+                    No cut that the listed trees show is lighter, and all of theirs of this weight are listed; the whole network may \
+                    hold others as light or lighter, but none that weighs less than 3.\n\
+                    side 3 links 2 2-3:1 4 1-3:10\n\
+                    side 1 2 3 links 0 0-1:1 3 0-2:10\n";
+    assert_eq!(list_of(&example("f-hidden-cut.net")), (Some(0), expected.to_string(), String::new()));
+}
+
 #[test]
 fn the_radio_bridge_of_the_works_is_named() {
     let (_, printed, _) = list_of(&example("works.net"));
-    assert!(printed.starts_with("sides 1 weight 250\nside 3 4 5 6 18 19 "), "{printed}");
+    let complete = "The list is complete: no other cut of the whole network weighs 250, and none weighs less.";
+    let start = format!("sides 1 weight 250\n{complete}\nside 3 4 5 6 18 19 ");
+    assert!(printed.starts_with(&start), "{printed}");
     assert!(printed.ends_with(" 30 31 links 3 2-3:100 7 6-7:100 10 1-5:50\n"), "{printed}");
 }
 

@@ -1,8 +1,6 @@
-//! A cut in words and as a line: the nodes of its side, and the links that cross it, each with its ends and weight.
+//! A cut in words: the nodes of its side, and the links that cross it, each with its ends and weight.
 
-use crate::list;
 use crate::network::{Link, Network};
-use crate::report::Side;
 
 /// The numbers of the links with exactly one end in a side of the network's nodes.
 pub fn crossing(network: &Network, side: &[usize]) -> Vec<usize> {
@@ -17,7 +15,7 @@ pub fn weight(network: &Network, links: &[usize]) -> u64 {
 }
 
 /// A link as a text has it.
-fn link_text(link: &Link) -> String {
+pub fn link_text(link: &Link) -> String {
     format!("{}-{}:{}", link.first, link.second, link.weight)
 }
 
@@ -50,42 +48,4 @@ fn enumeration(words: Vec<String>) -> String {
 pub fn is_side(network: &Network, nodes: &[usize]) -> bool {
     let rising = nodes.windows(2).all(|pair| pair[0] < pair[1]);
     rising && nodes.first().is_some_and(|&first| first > 0) && nodes.last().is_some_and(|&last| last < network.nodes)
-}
-
-/// The lines of a list, each with its line feed: how many sides there are and what they weigh, then for each side its nodes and the
-/// links that cross it. An error if it cannot be a list for the network.
-pub fn list_lines<'a>(
-    network: &'a Network,
-    sides: &'a [Side],
-) -> Result<impl Iterator<Item = String> + 'a, &'static str> {
-    let weight = common_weight(network, sides)?;
-    let head = format!("sides {} weight {weight}\n", sides.len());
-    Ok(std::iter::once(head).chain(sides.iter().map(|side| list_line(network, &list::nodes(side)))))
-}
-
-fn list_line(network: &Network, nodes: &[usize]) -> String {
-    let mut line = "side".to_string();
-    nodes.iter().for_each(|node| line.push_str(&format!(" {node}")));
-    line.push_str(" links");
-    for link in crossing(network, nodes) {
-        line.push_str(&format!(" {link} {}", link_text(&network.links[link])));
-    }
-    line.push('\n');
-    line
-}
-
-/// What every side of a list weighs.
-fn common_weight(network: &Network, sides: &[Side]) -> Result<u64, &'static str> {
-    let mut common = None;
-    for side in sides {
-        let nodes = list::nodes(side);
-        if !is_side(network, &nodes) {
-            return Err("a side is not some of the nodes behind node 0");
-        }
-        let weight = weight(network, &crossing(network, &nodes));
-        if *common.get_or_insert(weight) != weight {
-            return Err("the sides have different weights");
-        }
-    }
-    common.ok_or("the list is empty")
 }

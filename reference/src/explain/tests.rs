@@ -1,4 +1,5 @@
 use super::*;
+use crate::every_side::{self, Beside};
 use crate::generate::{self, FEATURES};
 use crate::random::Random;
 use crate::report::Side;
@@ -267,9 +268,102 @@ fn a_list_has_a_line_for_each_side_with_its_links() {
     assert_list(
         &ring,
         &[&[2], &[1, 2, 3]],
-        Ok("sides 2 weight 2\nside 2 links 1 1-2:1 2 2-3:1\nside 1 2 3 links 0 0-1:1 3 3-0:1\n"),
+        Ok("sides 2 weight 2\n\
+            The list is complete: no other cut of the whole network weighs 2, and none weighs less.\n\
+            side 2 links 1 1-2:1 2 2-3:1\n\
+            side 1 2 3 links 0 0-1:1 3 3-0:1\n"),
     );
-    assert_list(&parallel(&[(1, 0)]), &[&[1]], Ok("sides 1 weight 13\nside 1 links 0 0-1:9 1 0-1:4\n"));
+    assert_list(
+        &parallel(&[(1, 0)]),
+        &[&[1]],
+        Ok("sides 1 weight 13\n\
+            No cut that the listed trees show is lighter, and all of theirs of this weight are listed; the whole network may hold \
+            others as light or lighter, but none that weighs less than 3.\n\
+            side 1 links 0 0-1:9 1 0-1:4\n"),
+    );
+}
+
+/// What the second line of the list of node 1 alone says, where its links weigh what is given and the trees hold link 0.
+#[track_caller]
+fn assert_others(weight: u64, shares: &[u64], expected: &str) {
+    let trees: String = shares.iter().map(|share| format!("tree share {share} links 0\n")).collect();
+    let network = network(&format!("nodes 2\nlink 0-1:5\nlink 0-1:{}\n{trees}", weight - 5));
+    let sides = [report::side_bytes([1])];
+    let lines: String = list_lines(&network, &sides).expect("a list").collect();
+    assert_eq!(lines.lines().nth(1), Some(expected));
+}
+
+const NONE_LIGHTER: &str =
+    "No cut of the whole network weighs less. Others that no tree shows may weigh 6 too, since three times the \
+                            shares that count is 6 and not more.";
+
+#[test]
+fn a_list_is_complete_where_three_times_the_shares_exceed_the_weight() {
+    let complete = |weight| {
+        format!("The list is complete: no other cut of the whole network weighs {weight}, and none weighs less.")
+    };
+    let neither = "No cut that the listed trees show is lighter, and all of theirs of this weight are listed; the whole network may \
+                   hold others as light or lighter, but none that weighs less than 6.";
+    assert_others(5, &[2], &complete(5));
+    assert_others(6, &[2], NONE_LIGHTER);
+    assert_others(7, &[2], neither);
+    assert_others(5, &[1, 0, 1], &complete(5));
+    assert_others(8, &[1, 2], &complete(8));
+}
+
+#[test]
+fn trees_that_do_not_count_make_no_list_complete() {
+    assert_others(6, &[2, 4], NONE_LIGHTER);
+    assert_others(
+        7,
+        &[2, 4],
+        "No cut that the listed trees show is lighter, and all of theirs of this weight are listed; the whole network may hold \
+         others as light or lighter, but none that weighs less than 6. Tree 1 would bring the load of link 0 to 6, more than its \
+         weight of 5, so only tree 0 counts.",
+    );
+    assert_others(
+        6,
+        &[6],
+        "No cut that the listed trees show is lighter, and all of theirs of this weight are listed. Tree 0 would bring the load of \
+         link 0 to 6, more than its weight of 5, so no tree counts and nothing is known of the cuts that no tree shows.",
+    );
+    assert_others(
+        6,
+        &[0, 0],
+        "No cut that the listed trees show is lighter, and all of theirs of this weight are listed. All shares are 0, so nothing \
+         is known of the cuts that no tree shows.",
+    );
+}
+
+/// The shares are read by the search of every side, and what is said of other cuts is held against them.
+#[test]
+fn what_is_said_of_other_cuts_holds_for_every_side() {
+    let mut random = Random::new(9);
+    let mut said = [0; 3];
+    for feature in FEATURES {
+        for _ in 0..60 {
+            let size = generate::random_size(&mut random, 2, every_side::MOST_NODES, feature);
+            let network = generate::network(&mut random, size, feature);
+            let sides = crate::list::by_every_side(&network).sides;
+            let Beside { shares, missing, lighter, .. } =
+                every_side::check_list(&network, &sides).expect("a promise kept");
+            let lines: String = list_lines(&network, &sides).expect("a list").collect();
+            let second = lines.lines().nth(1).unwrap_or_default();
+            let starts = |start: &str| second.starts_with(start);
+            let cases = [
+                (starts("The list is complete: "), shares.is_gt() && missing == 0 && lighter == 0),
+                (starts("No cut of the whole network weighs less. "), shares.is_eq() && lighter == 0),
+                (
+                    starts("No cut that the listed trees show is lighter, and all of theirs of this weight "),
+                    shares.is_lt(),
+                ),
+            ];
+            let found = cases.iter().position(|(starts, _)| *starts).expect("one of three");
+            assert!(cases[found].1, "{second} {network:?}");
+            said[found] += 1;
+        }
+    }
+    assert!(said.iter().all(|&count| count > 100), "{said:?}");
 }
 
 #[test]

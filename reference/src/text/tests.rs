@@ -215,7 +215,7 @@ const NOT_JOINED: &str = "the links of tree 0 do not join every node to node 0";
 
 /// The networks of `examples/` and their reports, by name. The lettered ones are document 01's, with the answers of request F-6. In the
 /// works network halls B to E, with links of 100, 100 and 50 to the rest, are the only nodes that hang by less than 300.
-const EXAMPLES: [(&str, &str); 23] = [
+const EXAMPLES: [(&str, &str); 24] = [
     ("a-triangle.net", "answer 2 5 5 0 0 - 1\nside 1\n"),
     ("b-triangle-low-share.net", "answer 1 5 3 0 0 - 1\nside 1\n"),
     ("c-ring.net", "answer 2 2 2 0 0 1 1\nside 1\n"),
@@ -231,6 +231,7 @@ const EXAMPLES: [(&str, &str); 23] = [
     ("heavy-links.net", "answer 2 12500000 12500000 0 3 - 1\nside 3\n"),
     ("i-two-trees.net", "answer 1 2 0 0 0 1 1\nside 1\n"),
     ("later-survey.net", "answer 1 80 60 0 0 1 1\nside 1\n"),
+    ("missing-cut.net", "answer 2 3 3 0 0 - 1\nside 1\n"),
     ("refused-04-one-node.net", "refused 4\n"),
     ("refused-05-few-links.net", "refused 5\n"),
     ("refused-06-no-tree.net", "refused 6\n"),
