@@ -12,13 +12,13 @@ use Rattle.cuts.specs.Network.{Tree, Network}
 use Rattle.cuts.specs.Cut.{Side, Proper, Rootless, cutWeight}
 use Rattle.cuts.specs.Tree.{Sound}
 use Rattle.cuts.specs.Candidate.{Candidate, Rank, Precedes, candidates, noCandidate}
-use Rattle.cuts.specs.Bound.{shares, Counting, CountedBy, counted}
-use Rattle.cuts.specs.Answer.{Rules, reported}
+use Rattle.cuts.specs.Bound.{shares, Counting, CountedBy, counted, floor}
+use Rattle.cuts.specs.Answer.{Rules, certified, reported, judged, answer}
 use Rattle.cuts.proofs.ListLaws.{Each, at-mem, mem-at, each-at, at-each, each-only}
 use Rattle.cuts.proofs.OrderLaws.{precedes-one-way, precedes-only}
 use Rattle.cuts.proofs.Least.{first-in}
 use Rattle.cuts.proofs.CountedLaws.{counted-counts}
-use Rattle.cuts.proofs.Demands.{Shown, shown-or-heavy, ahead-weighing, light, reported-first, reported-precedes}
+use Rattle.cuts.proofs.Demands.{verdict-tells, Shown, shown-or-heavy, ahead-weighing, light, reported-first, reported-precedes}
 use Rattle.listing.specs.Picks.{keep}
 use Rattle.listing.specs.Listing.{sameFlags, inOrder, listed, Weak, Opens, OwedList}
 use Rattle.listing.specs.Rounds.{isNew}
@@ -69,6 +69,14 @@ module _ (net : Network) (v : Sound net) (counting : Counting) (cs : List Tree) 
       step : Shown net s ⊎ (3 * shares cs ≤ cutWeight net s) → reported rank net .weight ≤ cutWeight net s
       step (inl k) = light net v (ahead-weighing rank) (reported rank net) (reported-first net v rank) s p (k .0) (k .1) (k .2)
       step (inr h) = omega arith
+
+-- the reported cut is certified exactly where they reach its weight
+pub certified-reached : (net : Network) (r : Rules)
+    → (answer r net .verdict ≡ certified) ↔ (reported (r .rank) net .weight ≤ 3 * shares (counted (r .counting) net (net .trees)))
+unfolding answer judged floor
+certified-reached net r =
+    let tells = verdict-tells (answer r net .floor) (reported (r .rank) net .weight) in
+    (λ h. let e = tells .0 h in omega arith, λ l. tells .1 (omega arith))
 
 -- ---- what is owed
 
