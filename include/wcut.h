@@ -84,7 +84,7 @@ uint32_t wcut_report(const uint8_t *sheet, size_t sheet_length,
  * WCUT_SIDE_BYTES a side from the area's start, none with node 0. Fewer nodes come first, then the order of candidates decides as in the
  * report, so the first is the reported side. Sets *count to their number and returns WCUT_ACCEPTED; or sets *count to 0, leaves the area
  * as it was, and returns the sheet's refusal or, if there is none, WCUT_SHORT_LIST where the area cannot hold them all. Bytes behind
- * the last side are never touched.
+ * the last side are never touched. docs/ENTRY.md says when the sides are all of that weight that the whole network has.
  *
  * With n nodes and t trees there are at most t n (n - 1) / 2 sides. A call takes less than four times as long as one of wcut_report where
  * there are up to 1,000 of them, and time in proportion to their number where there are more.
