@@ -1,2 +1,1 @@
-// Orders of a tree's nodes, from the root on, each behind its parent: specs/ and proofs/ have the definitions and the laws of such an order.
-// What grows one stands in `growth`.
+// Networks, trees and sides as arrays hold them: the theory between the definitions and the code; specs/ and proofs/ are what this crate is for.
