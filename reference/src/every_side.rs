@@ -34,6 +34,11 @@ pub fn nodes_of(network: &Network, side: u32) -> Vec<usize> {
     (0..network.nodes).filter(|&node| side >> node & 1 == 1).collect()
 }
 
+/// The side of these nodes.
+fn side_of(nodes: &[usize]) -> u32 {
+    nodes.iter().fold(0, |side, &node| side | 1 << node)
+}
+
 fn node_count(side: u32) -> usize {
     side.count_ones() as usize
 }
@@ -155,7 +160,7 @@ fn check_reported(network: &Network, answer: &Answer) -> Result<(), String> {
     let candidate = answer.candidate;
     let tree = network.trees.get(candidate.tree);
     let tree = tree.ok_or("the tree is not listed")?;
-    let side = answer.side.iter().fold(0, |side, &node| side | 1 << node);
+    let side = side_of(&answer.side);
     let crossed = crossing_members(network, tree, side);
     let owed_verdict = match candidate.weight == answer.floor {
         true => WHOLE,

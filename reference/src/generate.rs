@@ -403,30 +403,20 @@ fn overload_one(random: &mut Random, network: &mut Network) {
 fn fit_shares(random: &mut Random, network: &mut Network) {
     const ATTEMPTS: usize = 6;
     let most = most_for_one_share(network);
-    let trees = network.trees.len();
-    let run = if random.once_in(2) { trees } else { random.between(1, trees) };
+    let third = |network: &Network| (cuts::answer(network).candidate.weight + 1) / 3;
+    let run = runs::often_all(random, network);
     for _ in 0..ATTEMPTS {
-        share_out(random, network, run);
+        let shares = third(network);
+        runs::share_out(random, network, run, shares);
         if !cuts::overloaded(network) {
-            if run < trees {
-                runs::end_at(random, network, run);
-            }
-            return;
+            return runs::end_behind(random, network, run);
         }
         for (link, load) in cuts::loads(&network.links, &network.trees).into_iter().enumerate() {
             network.links[link].weight = network.links[link].weight.max(load).min(most);
         }
     }
-    share_out(random, network, 1);
-}
-
-/// Gives the first trees, so many, a third of the lightest weight together, and the others nothing.
-fn share_out(random: &mut Random, network: &mut Network, trees: usize) {
-    let mut left = (cuts::answer(network).candidate.weight + 1) / 3;
-    for (place, tree) in network.trees.iter_mut().enumerate() {
-        tree.share = if place + 1 == trees { left } else { random.between(0, left as usize) as u64 };
-        left -= tree.share;
-    }
+    let shares = third(network);
+    runs::share_out(random, network, 1, shares);
 }
 
 /// How many light links [`light_side_ends`] starts with.

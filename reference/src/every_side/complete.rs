@@ -1,6 +1,7 @@
 //! What request F-14 promises of a small network's list, held against every side of the network.
 
-use super::{counted, require, shares, sides, weigh};
+use super::{counted, require, shares, side_of, sides, weigh};
+use crate::list;
 use crate::network::Network;
 use crate::report::Side;
 use std::cmp::Ordering;
@@ -16,20 +17,19 @@ pub struct Beside {
     pub lighter: usize,
 }
 
-/// A side as a number.
-fn bits(side: &Side) -> u32 {
-    side.iter().take(4).rev().fold(0, |bits, &byte| bits << 8 | u32::from(byte))
-}
-
 /// Looks for every side of a sound network of at most [`super::MOST_NODES`] nodes in its list, which is not empty; the error says which
 /// promise is not kept.
 pub fn check_list(network: &Network, list: &[Side]) -> Result<Beside, String> {
-    let mut listed: Vec<u32> = list.iter().map(bits).collect();
+    let listed: Vec<u32> = list.iter().map(|side| side_of(&list::nodes(side))).collect();
     let weight = weigh(network, listed[0]);
-    listed.sort_unstable();
-    let is_missing = |side: &u32| weigh(network, *side) == weight && listed.binary_search(side).is_err();
-    let missing = sides(network).filter(is_missing).count();
-    let lighter = sides(network).filter(|&side| weigh(network, side) < weight).count();
+    let (mut missing, mut lighter) = (0, 0);
+    for side in sides(network) {
+        match weigh(network, side).cmp(&weight) {
+            Ordering::Less => lighter += 1,
+            Ordering::Equal => missing += usize::from(!listed.contains(&side)),
+            Ordering::Greater => {}
+        }
+    }
     let three_shares = 3 * shares(counted(network).iter());
     let shares = three_shares.cmp(&u128::from(weight));
     require(shares.is_lt() || lighter == 0, "a side is lighter")?;
@@ -41,7 +41,6 @@ pub fn check_list(network: &Network, list: &[Side]) -> Result<Beside, String> {
 mod tests {
     use super::*;
     use crate::documented;
-    use crate::list;
 
     /// Four nodes, each pair joined, where node 0's links weigh 1 and the others what is given.
     fn four_nodes(others: [u64; 3], trees: &[(u64, &[usize])]) -> Network {

@@ -7,7 +7,7 @@ use crate::random::Random;
 const MOST_SHARE: u64 = u32::MAX as u64;
 
 /// The greatest share with which a tree behind so many trees, which overload no link, overloads none either.
-pub fn bears(network: &Network, run: usize, tree: usize) -> u64 {
+fn bears(network: &Network, run: usize, tree: usize) -> u64 {
     let loads = cuts::loads(&network.links, &network.trees[..run]);
     let spare = |&member: &usize| network.links[member].weight - loads[member];
     network.trees[tree].members.iter().map(spare).min().unwrap_or(0)
@@ -43,9 +43,35 @@ fn part(random: &mut Random, most: u64, trees: usize) -> u64 {
     }
 }
 
+/// How many trees from tree 0 on are to count: often all.
+pub fn often_all(random: &mut Random, network: &Network) -> usize {
+    let trees = network.trees.len();
+    if random.once_in(2) {
+        trees
+    } else {
+        random.between(1, trees)
+    }
+}
+
+/// Gives the first trees, so many, these shares together, and the others nothing.
+pub fn share_out(random: &mut Random, network: &mut Network, run: usize, shares: u64) {
+    let mut left = shares;
+    for (place, tree) in network.trees.iter_mut().enumerate() {
+        tree.share = if place + 1 == run { left } else { random.between(0, left as usize) as u64 };
+        left -= tree.share;
+    }
+}
+
+/// Ends the run behind so many trees, which overload no link, if there is one more.
+pub fn end_behind(random: &mut Random, network: &mut Network, run: usize) {
+    if run < network.trees.len() {
+        end_at(random, network, run);
+    }
+}
+
 /// Ends the run at a tree behind ones that overload no link: its share loads a link one past its weight, or is the greatest there is.
 /// The trees behind it have no share, the greatest that the run would bear, or one more.
-pub fn end_at(random: &mut Random, network: &mut Network, end: usize) {
+fn end_at(random: &mut Random, network: &mut Network, end: usize) {
     if bears(network, end, end) == MOST_SHARE {
         let member = random.pick(&network.trees[end].members);
         network.links[member].weight -= 1;

@@ -1,7 +1,7 @@
 //! Networks in which the side that no tree shows, the reported side and three times the shares of the trees that count weigh almost the
 //! same.
 
-use super::{hiding_side, some_hung, Size, LIGHT_LINKS};
+use super::{hiding_side, runs, some_hung, Size, LIGHT_LINKS};
 use crate::network::Network;
 use crate::random::Random;
 use crate::sheet::MOST_WEIGHT;
@@ -25,24 +25,10 @@ pub fn network(random: &mut Random, size: Size) -> Network {
         _ if random.once_in(8) => reported,
         _ => random.between(3 * shares as usize + 2, MOST_WEIGHT as usize) as u64,
     });
-    share_out(random, &mut network, shares);
+    let run = runs::often_all(random, &network);
+    runs::share_out(random, &mut network, run, shares);
+    runs::end_behind(random, &mut network, run);
     network
-}
-
-/// Gives the first trees, often all, these shares together. A tree behind them overloads a link with any share.
-fn share_out(random: &mut Random, network: &mut Network, shares: u64) {
-    let trees = network.trees.len();
-    let run = if random.once_in(2) { trees } else { random.between(1, trees) };
-    let mut left = shares;
-    for (place, tree) in network.trees.iter_mut().enumerate() {
-        tree.share = match place {
-            _ if place + 1 == run => left,
-            _ if place < run => random.between(0, left as usize) as u64,
-            _ if place == run => random.pick(&[1, 1, shares, u64::from(u32::MAX)]),
-            _ => random.pick(&[0, 1, shares]),
-        };
-        left -= tree.share.min(left);
-    }
 }
 
 #[cfg(test)]
