@@ -2,7 +2,7 @@
 
 /// From the package's folder, in which cargo runs the build.
 const ARCHIVE: &str = "../target/staticlib/libmonitor.a";
-const CALLERS: [&str; 3] = ["network", "compare", "bench"];
+const CALLERS: [&str; 2] = ["compare", "bench"];
 
 fn main() {
     println!("cargo:rerun-if-changed=build.rs");

@@ -27,3 +27,8 @@ quietly() {
 build_reference() {
     quietly cargo build --offline --manifest-path reference/Cargo.toml --target-dir target/reference --bin "$@"
 }
+
+# Builds target/planner/release/network, the planner's command. It needs the archive.
+build_planner() {
+    quietly cargo build --release --offline --manifest-path planner/Cargo.toml --target-dir target/planner
+}

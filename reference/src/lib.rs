@@ -1,12 +1,11 @@
 //! The weakest-cut monitor a second time, written from documents 01 and 02 alone and by another method: a reader and a writer of link
-//! sheets, two ways to the answer, networks as text, and what the comparison with the monitor needs.
+//! sheets, two ways to the answer, and what the comparison with the monitor needs.
 
 pub mod cuts;
 pub mod documented;
 #[cfg(feature = "archive")]
 pub mod entry;
 pub mod every_side;
-pub mod explain;
 pub mod faults;
 pub mod generate;
 pub mod list;
@@ -16,5 +15,4 @@ pub mod report;
 pub mod shapes;
 pub mod sheet;
 pub mod sold;
-pub mod text;
 pub mod trunks;

@@ -7,10 +7,10 @@ mod tests;
 
 pub use list::list_lines;
 
-use crate::cuts::{self, Answer, Candidate};
-use crate::network::{Link, Network, Tree};
-use crate::report;
-use crate::sheet::{Place, Refusal, LEAST_NODES, MOST_LINKS, MOST_NODES, MOST_TREES};
+use reference::cuts::{self, Answer, Candidate};
+use reference::network::{Link, Network, Tree};
+use reference::report;
+use reference::sheet::{Place, Refusal, LEAST_NODES, MOST_LINKS, MOST_NODES, MOST_TREES};
 
 /// What the refusal numbers mean, in the words of docs/REFUSALS.md and include/wcut.h. They are document 01's, with request F-2's for 2
 /// and 11, request F-9's for 8 and request F-5's 19.

@@ -173,14 +173,3 @@ fn a_fault_in_one_file_leaves_the_others_their_reports() {
                     256.\n";
     assert_eq!(String::from_utf8(printed).expect("text"), expected);
 }
-
-#[test]
-#[cfg(not(feature = "archive"))]
-fn a_command_without_the_archive_says_so() {
-    let (status, printed, errors) = network(&["list"], TRIANGLE.as_bytes());
-    assert_eq!((status, printed.len()), (Some(1), 0));
-    assert!(
-        errors.starts_with("standard input: the list: this command was built without the monitor's archive"),
-        "{errors}"
-    );
-}

@@ -1,12 +1,13 @@
-//! The command `network list` as a planner runs it, with the monitor's archive linked in.
+//! The command `network list` as a planner runs it.
 
 mod command;
 
 use command::network;
+use planner::text;
 use reference::cuts::{self, Counting};
 use reference::network::Network;
 use reference::report::Side;
-use reference::{every_side, list, text};
+use reference::{every_side, list};
 use std::cmp::Ordering;
 use std::path::{Path, PathBuf};
 

@@ -1,6 +1,6 @@
 //! A cut in words: the nodes of its side, and the links that cross it, each with its ends and weight.
 
-use crate::network::{Link, Network};
+use reference::network::{Link, Network};
 
 /// The numbers of the links with exactly one end in a side of the network's nodes.
 pub fn crossing(network: &Network, side: &[usize]) -> Vec<usize> {

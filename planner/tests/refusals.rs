@@ -4,8 +4,9 @@
 mod command;
 
 use command::network;
+use planner::explain;
 use reference::documented::{self, CASE_A};
-use reference::{explain, sheet};
+use reference::sheet;
 
 const HEADER: &str = include_str!("../../include/wcut.h");
 const CODE: &str = include_str!("../../crates/format/src/refusals.rt");

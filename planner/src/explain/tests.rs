@@ -1,9 +1,9 @@
 use super::*;
-use crate::every_side::{self, Beside};
-use crate::generate::{self, FEATURES};
-use crate::random::Random;
-use crate::report::Side;
 use crate::text;
+use reference::every_side::{self, Beside};
+use reference::generate::{self, FEATURES};
+use reference::random::Random;
+use reference::report::Side;
 
 const RING: &str = "nodes 4\nlink 0-1:1\nlink 1-2:1\nlink 2-3:1\nlink 3-0:1\n";
 
@@ -344,7 +344,7 @@ fn what_is_said_of_other_cuts_holds_for_every_side() {
         for _ in 0..60 {
             let size = generate::random_size(&mut random, 2, every_side::MOST_NODES, feature);
             let network = generate::network(&mut random, size, feature);
-            let sides = crate::list::by_every_side(&network).sides;
+            let sides = reference::list::by_every_side(&network).sides;
             let Beside { shares, missing, lighter, .. } =
                 every_side::check_list(&network, &sides).expect("a promise kept");
             let lines: String = list_lines(&network, &sides).expect("a list").collect();

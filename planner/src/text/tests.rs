@@ -1,6 +1,7 @@
 use super::*;
-use crate::documented::CASE_A;
-use crate::{explain, report, sheet};
+use crate::explain;
+use reference::documented::CASE_A;
+use reference::{report, sheet};
 use std::path::Path;
 
 /// Document 01's case A.

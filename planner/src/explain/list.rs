@@ -1,10 +1,10 @@
 //! A list as lines: how many sides it has, what is known of the cuts beside them, and each side with its nodes and links.
 
 use super::{counted, cut, unshown};
-use crate::cuts;
-use crate::list;
-use crate::network::Network;
-use crate::report::Side;
+use reference::cuts;
+use reference::list;
+use reference::network::Network;
+use reference::report::Side;
 use std::cmp::Ordering;
 
 /// The lines of a list, each with its line feed: how many sides there are and what they weigh, whether there may be others, then for

@@ -1,10 +1,9 @@
 //! Turns networks as text into link sheets and back, and says what the report program and the entry of the list answer for them.
 
-use reference::explain::{self, Printed};
+use planner::explain::{self, Printed};
+use planner::text::{self, Parsed};
 use reference::network::Network;
-use reference::report::Side;
-use reference::text::{self, Parsed};
-use reference::{sheet, sheet::Refusal};
+use reference::{entry, sheet, sheet::Refusal};
 use std::ffi::{OsStr, OsString};
 use std::io::{self, ErrorKind, Read, Write};
 use std::process::{self, Command, ExitCode, Output, Stdio};
@@ -110,9 +109,9 @@ fn list_of_text(source: &Source) -> Result<(), String> {
     let bytes = sheet::write_contents(&parsed.contents);
     let reading = sheet::read(&bytes);
     let candidates = |network: &Network| network.trees.len() * network.nodes * (network.nodes - 1) / 2;
-    let listed = entry_list(&bytes, reading.as_ref().map_or(0, candidates));
+    let listed = entry::list(&bytes, reading.as_ref().map_or(0, candidates));
     let failed = |what: String| format!("{}: the list: {what}", source.name());
-    match (listed.map_err(failed)?, reading) {
+    match (listed, reading) {
         (Ok(sides), Ok(network)) => {
             let lines = explain::list_lines(&network, &sides).map_err(|what| failed(what.to_string()))?;
             lines.for_each(|line| print(line.as_bytes()));
@@ -122,17 +121,6 @@ fn list_of_text(source: &Source) -> Result<(), String> {
         (_, Err(refusal)) => Err(failed(format!("the sheet has to be refused, number {}", refusal.number))),
         (Err(number), Ok(_)) => Err(failed(format!("the sheet must not be refused, number {number}"))),
     }
-}
-
-/// What the monitor's entry lists in an area for so many sides, or the number of its refusal.
-#[cfg(feature = "archive")]
-fn entry_list(sheet: &[u8], most_sides: usize) -> Result<Result<Vec<Side>, u32>, String> {
-    Ok(reference::entry::list(sheet, most_sides))
-}
-
-#[cfg(not(feature = "archive"))]
-fn entry_list(_: &[u8], _: usize) -> Result<Result<Vec<Side>, u32>, String> {
-    Err("this command was built without the monitor's archive; `make demo` builds it with the archive".to_string())
 }
 
 fn text_of_sheet(source: &Source) -> Result<(), String> {

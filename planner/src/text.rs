@@ -5,9 +5,9 @@ mod line;
 #[cfg(test)]
 mod tests;
 
-use crate::network::{Link, Network, Tree};
-use crate::sheet::{Contents, Place, Refusal, MOST_LINKS, MOST_TREES};
 use line::Line;
+use reference::network::{Link, Network, Tree};
+use reference::sheet::{Contents, Place, Refusal, MOST_LINKS, MOST_TREES};
 use std::fmt::Write;
 
 /// The largest numbers that the fields of a sheet hold.
