@@ -1,5 +1,12 @@
-//! The planner's side of the monitor: networks as text, and what the unit's answers mean in words. The answers come from the proved code;
-//! all else here is tested, not proved.
+//! The planner's side of the monitor: networks as text and as cable lists, and what the unit's answers mean, in
+//! words and as JSON. The answers come from the proved code (`unit`); all else here is tested, not proved.
 
-pub mod explain;
+pub mod cables;
+pub mod findings;
+pub mod input;
+pub mod json;
+mod levels;
+pub mod mistakes;
+pub mod names;
 pub mod text;
+pub mod unit;

@@ -1,200 +1,132 @@
-//! Turns networks as text into link sheets and back, and says what the report program and the entry of the list answer for them.
+//! The planner's command: from a cable list to the trench. docs/NETWORKS.md and docs/REPORT.md describe it.
 
-use planner::explain::{self, Printed};
-use planner::text::{self, Parsed};
-use reference::network::Network;
-use reference::{entry, sheet, sheet::Refusal};
-use std::ffi::{OsStr, OsString};
-use std::io::{self, ErrorKind, Read, Write};
-use std::process::{self, Command, ExitCode, Output, Stdio};
+mod arguments;
+mod commands;
 
-const USAGE: &str = "\
-network sheet [FILE]              turns a network as text into a link sheet
-network text [FILE]               turns a link sheet into a network as text
-network report PROGRAM FILE...    runs the report program on networks as text and says what its lines mean
-network list [FILE]               lists every cut of the reported weight of a network as text, smallest side first
+use arguments::{Arguments, Flag};
+use commands::{print, settled, Done, Outcome};
+use std::ffi::OsString;
+use std::ops::RangeInclusive;
+use std::process::ExitCode;
 
-Without FILE, standard input is read. The result goes to standard output. docs/NETWORKS.md describes the text.
+const FAILED: u8 = 1;
+const REFUSED: u8 = 3;
+const MOST_FILES: usize = usize::MAX;
+
+struct Subcommand {
+    name: &'static str,
+    /// The operands as the usage shows them, and how many there may be.
+    operands: &'static str,
+    count: RangeInclusive<usize>,
+    flags: &'static [Flag],
+    about: &'static str,
+    run: fn(&Arguments) -> Done,
+}
+
+const JSON: Flag = Flag { name: "--json", value: None };
+const CORE: Flag = Flag { name: "--core", value: Some("SWITCH") };
+const PROGRAM: Flag = Flag { name: "--program", value: Some("PROGRAM") };
+
+const SUBCOMMANDS: [Subcommand; 6] = [
+    Subcommand {
+        name: "import",
+        operands: "[CABLES]",
+        count: 0..=1,
+        flags: &[CORE],
+        about: "turns a cable list (CSV) into a network as text; the core switch is the first of the list or SWITCH",
+        run: commands::import,
+    },
+    Subcommand {
+        name: "report",
+        operands: "[FILE...]",
+        count: 0..=MOST_FILES,
+        flags: &[JSON, PROGRAM],
+        about:
+            "says what the weakest cut is and where a new cable has to run; PROGRAM: the lines of that report program",
+        run: commands::report,
+    },
+    Subcommand {
+        name: "list",
+        operands: "[FILE]",
+        count: 0..=1,
+        flags: &[JSON],
+        about: "lists every cut as light as the reported one, smallest side first",
+        run: commands::list,
+    },
+    Subcommand {
+        name: "export",
+        operands: "[FILE]",
+        count: 0..=1,
+        flags: &[],
+        about: "turns a network as text into a cable list (CSV), without trees and trunk numbers",
+        run: commands::export,
+    },
+    Subcommand {
+        name: "sheet",
+        operands: "[FILE]",
+        count: 0..=1,
+        flags: &[],
+        about: "turns a network as text into a link sheet, which units read",
+        run: commands::sheet,
+    },
+    Subcommand {
+        name: "text",
+        operands: "[SHEET]",
+        count: 0..=1,
+        flags: &[],
+        about: "turns a link sheet into a network as text",
+        run: commands::text,
+    },
+];
+
+const NOTES: &str = "
+FILE is a network as text. Without one, or with -, standard input is read. The result goes to standard output.
+The status is 0, 3 if the monitor refuses the network, and 1 after any other error.
+docs/NETWORKS.md describes the files, docs/REPORT.md what is printed.
 ";
-const BAD_USAGE: u8 = 2;
-const NOT_PRINTED: i32 = 1;
+
+impl Subcommand {
+    fn usage(&self) -> String {
+        let flag = |flag: &Flag| match flag.value {
+            None => format!(" [{}]", flag.name),
+            Some(value) => format!(" [{} {value}]", flag.name),
+        };
+        let flags: String = self.flags.iter().map(flag).collect();
+        format!("network {}{flags} {}\n    {}\n", self.name, self.operands, self.about)
+    }
+
+    fn run(&self, given: &[OsString]) -> Done {
+        let arguments = Arguments::parse(given, self.flags, &self.count);
+        let arguments =
+            arguments.map_err(|error| format!("network {}: {error}\n{}", self.name, self.usage().trim_end()))?;
+        if arguments.help {
+            print(format!("{}{NOTES}", self.usage()).as_bytes());
+            return Ok(Outcome::Accepted);
+        }
+        (self.run)(&arguments)
+    }
+}
 
 fn main() -> ExitCode {
-    let arguments: Vec<OsString> = std::env::args_os().skip(1).collect();
-    let words: Vec<&OsStr> = arguments.iter().map(OsString::as_os_str).collect();
-    let command = words.first().and_then(|word| word.to_str());
-    let done = match (command, &words[..]) {
-        (Some("sheet"), [_, file @ ..]) if file.len() <= 1 => sheet_of_text(&Source::of(file)),
-        (Some("text"), [_, file @ ..]) if file.len() <= 1 => text_of_sheet(&Source::of(file)),
-        (Some("list"), [_, file @ ..]) if file.len() <= 1 => list_of_text(&Source::of(file)),
-        (Some("report"), [_, program, files @ ..]) if !files.is_empty() => return report_all(program, files),
-        _ => {
-            eprint!("{USAGE}");
-            return ExitCode::from(BAD_USAGE);
-        }
+    let given: Vec<OsString> = std::env::args_os().skip(1).collect();
+    match settled(run(&given)) {
+        Outcome::Accepted => ExitCode::SUCCESS,
+        Outcome::Refused => ExitCode::from(REFUSED),
+        Outcome::Failed => ExitCode::from(FAILED),
+    }
+}
+
+fn run(given: &[OsString]) -> Done {
+    let Some((name, given)) = given.split_first() else {
+        return Err("network: a subcommand is missing; `network --help` lists them".to_string());
     };
-    status(done)
-}
-
-/// Prints an error, and gives the exit status.
-fn status(done: Result<(), String>) -> ExitCode {
-    match done {
-        Ok(()) => ExitCode::SUCCESS,
-        Err(message) => {
-            eprintln!("{message}");
-            ExitCode::FAILURE
-        }
+    if name == "--help" && given.is_empty() {
+        let usages: String = SUBCOMMANDS.iter().map(Subcommand::usage).collect();
+        print(format!("{usages}{NOTES}").as_bytes());
+        return Ok(Outcome::Accepted);
     }
-}
-
-/// A file, or standard input.
-struct Source<'a>(Option<&'a OsStr>);
-
-impl<'a> Source<'a> {
-    fn of(file: &[&'a OsStr]) -> Self {
-        Source(file.first().copied())
+    match SUBCOMMANDS.iter().find(|subcommand| name == subcommand.name) {
+        Some(subcommand) => subcommand.run(given),
+        None => Err(format!("network: unknown subcommand '{}'; `network --help` lists them", name.to_string_lossy())),
     }
-
-    fn name(&self) -> String {
-        self.0.map_or("standard input".to_string(), |file| file.to_string_lossy().into_owned())
-    }
-
-    fn read(&self) -> Result<Vec<u8>, String> {
-        let read = match self.0 {
-            Some(file) => std::fs::read(file),
-            None => {
-                let mut bytes = Vec::new();
-                io::stdin().read_to_end(&mut bytes).map(|_| bytes)
-            }
-        };
-        read.map_err(|error| format!("{}: {error}", self.name()))
-    }
-
-    fn parse(&self) -> Result<Parsed, String> {
-        text::parse(&self.read()?).map_err(|fault| format!("{}:{}: {}", self.name(), fault.line, fault.message))
-    }
-}
-
-/// Prints to standard output. If that fails, the command ends, without a message if nobody reads any more.
-fn print(bytes: &[u8]) {
-    let mut output = io::stdout().lock();
-    if let Err(error) = output.write_all(bytes).and_then(|()| output.flush()) {
-        if error.kind() != ErrorKind::BrokenPipe {
-            eprintln!("standard output: {error}");
-        }
-        process::exit(NOT_PRINTED);
-    }
-}
-
-/// Writes the sheet, and a note if the monitor will refuse it.
-fn sheet_of_text(source: &Source) -> Result<(), String> {
-    let parsed = source.parse()?;
-    let bytes = sheet::write_contents(&parsed.contents);
-    if let Err(refusal) = sheet::read(&bytes) {
-        eprintln!("{}", refusal_note(source, &parsed, &refusal));
-    }
-    print(&bytes);
-    Ok(())
-}
-
-fn refusal_note(source: &Source, parsed: &Parsed, refusal: &Refusal) -> String {
-    let Refusal { number, .. } = refusal;
-    let (line, why) = (parsed.line_of(refusal), explain::refusal_of(&parsed.contents.network, refusal));
-    format!("{}:{line}: the monitor refuses this sheet, number {number}: {why}", source.name())
-}
-
-/// Prints the list that the monitor makes, a line a side.
-fn list_of_text(source: &Source) -> Result<(), String> {
-    let parsed = source.parse()?;
-    let bytes = sheet::write_contents(&parsed.contents);
-    let reading = sheet::read(&bytes);
-    let candidates = |network: &Network| network.trees.len() * network.nodes * (network.nodes - 1) / 2;
-    let listed = entry::list(&bytes, reading.as_ref().map_or(0, candidates));
-    let failed = |what: String| format!("{}: the list: {what}", source.name());
-    match (listed, reading) {
-        (Ok(sides), Ok(network)) => {
-            let lines = explain::list_lines(&network, &sides).map_err(|what| failed(what.to_string()))?;
-            lines.for_each(|line| print(line.as_bytes()));
-            Ok(())
-        }
-        (Err(number), Err(refusal)) if number == refusal.number => Err(refusal_note(source, &parsed, &refusal)),
-        (_, Err(refusal)) => Err(failed(format!("the sheet has to be refused, number {}", refusal.number))),
-        (Err(number), Ok(_)) => Err(failed(format!("the sheet must not be refused, number {number}"))),
-    }
-}
-
-fn text_of_sheet(source: &Source) -> Result<(), String> {
-    match sheet::read_contents(&source.read()?) {
-        Ok(contents) => {
-            print(text::write(&contents).as_bytes());
-            Ok(())
-        }
-        Err(Refusal { number, place }) => {
-            let (place, meaning) = (explain::place_name(place), explain::meaning(number).unwrap_or_default());
-            Err(format!("{}: the sheet is refused, number {number}, at {place}: {meaning}", source.name()))
-        }
-    }
-}
-
-/// Reports on every file, whether or not there was an error with one before.
-fn report_all(program: &OsStr, files: &[&OsStr]) -> ExitCode {
-    let mut exit = ExitCode::SUCCESS;
-    for (place, file) in files.iter().enumerate() {
-        if place > 0 {
-            print(b"\n");
-        }
-        if let Err(message) = report(program, &Source(Some(file))) {
-            exit = status(Err(message));
-        }
-    }
-    exit
-}
-
-/// Prints the title of a network and its path as given, the report program's lines for it, and what they mean.
-fn report(program: &OsStr, source: &Source) -> Result<(), String> {
-    let parsed = source.parse()?;
-    let bytes = sheet::write_contents(&parsed.contents);
-    let lines = lines_of(program, &bytes).map_err(|error| format!("{}: {error}", source.name()))?;
-    let failed = |what| format!("{}: {} printed {lines:?}: {what}", source.name(), program.to_string_lossy());
-    let meaning = meaning(&parsed, &bytes, &lines).map_err(failed)?;
-    let title = match &parsed.title {
-        Some(title) => format!("{title} ({})", source.name()),
-        None => source.name(),
-    };
-    print(format!("{title}\n{lines}{meaning}\n").as_bytes());
-    Ok(())
-}
-
-/// What the lines mean for a text and its sheet; an error if they cannot be the lines for it.
-fn meaning(parsed: &Parsed, sheet: &[u8], lines: &str) -> Result<String, String> {
-    let printed = explain::parse_lines(lines).ok_or("these are not the lines of a report")?;
-    match (printed, sheet::read(sheet)) {
-        (Printed::Answered(answer), Ok(network)) => Ok(explain::sentence(&network, &answer)?),
-        (Printed::Refused(number), Err(refusal)) if refusal.number == number => {
-            let (line, why) = (parsed.line_of(&refusal), explain::refusal_of(&parsed.contents.network, &refusal));
-            Ok(format!("The sheet is refused for line {line}: {why}."))
-        }
-        (_, Err(refusal)) => Err(format!("the sheet has to be refused, number {}", refusal.number)),
-        (_, Ok(_)) => Err("the sheet must not be refused".to_string()),
-    }
-}
-
-/// What the report program prints for a sheet.
-fn lines_of(program: &OsStr, sheet: &[u8]) -> Result<String, String> {
-    let name = program.to_string_lossy();
-    let Output { status, stdout, .. } = run(program, sheet).map_err(|error| format!("{name}: {error}"))?;
-    if !status.success() {
-        return Err(format!("{name}: ended with {status}"));
-    }
-    String::from_utf8(stdout).map_err(|_| format!("{name}: printed what is no text"))
-}
-
-/// Runs a program with the sheet as its standard input, which it need not read to the end.
-fn run(program: &OsStr, sheet: &[u8]) -> io::Result<Output> {
-    let mut child = Command::new(program).stdin(Stdio::piped()).stdout(Stdio::piped()).spawn()?;
-    let input = child.stdin.take();
-    std::thread::scope(|scope| {
-        scope.spawn(move || input.map(|mut input| input.write_all(sheet)));
-        child.wait_with_output()
-    })
 }

@@ -2,7 +2,7 @@
 
 mod command;
 
-use command::{finish, network, start};
+use command::{example, finish, network, start};
 use reference::documented::CASE_A;
 use std::fs::File;
 use std::path::{Path, PathBuf};
@@ -10,6 +10,7 @@ use std::process::{Command, Stdio};
 
 /// Document 01's case A.
 const TRIANGLE: &str = "# A triangle\nnodes 3\nlink 0-1:3\nlink 1-2:2\nlink 0-2:4\ntree share 2 links 0 2\n";
+const SUBCOMMANDS: [&str; 6] = ["import", "report", "list", "export", "sheet", "text"];
 
 /// A program that takes its standard input and prints the given lines, or ends with a status. A shell writes it, so that no
 /// process of this test has it open when it is run.
@@ -26,26 +27,57 @@ fn report(name: &str, text: &str, commands: &str) -> (Option<i32>, String, Strin
     let folder = Path::new(env!("CARGO_TARGET_TMPDIR"));
     std::fs::write(folder.join(name), text).expect("a file for the network");
     let program = stand_in(&format!("{name}.program"), commands);
-    let (status, printed, errors) = network(&["report", &program.to_string_lossy(), name], b"");
+    let (status, printed, errors) = network(&["report", "--program", &program.to_string_lossy(), name], b"");
     (status, String::from_utf8(printed).expect("text"), errors)
 }
 
 #[test]
-fn bad_arguments_give_the_usage() {
-    let bad: [&[&str]; 7] = [
+fn help_is_printed_with_status_0() {
+    let (status, all, errors) = network(&["--help"], b"");
+    assert_eq!((status, errors.as_str()), (Some(0), ""));
+    let all = String::from_utf8(all).expect("text");
+    for subcommand in SUBCOMMANDS {
+        let (status, one, errors) = network(&[subcommand, "--help"], b"");
+        let one = String::from_utf8(one).expect("text");
+        assert_eq!((status, errors.as_str()), (Some(0), ""));
+        assert!(one.starts_with(&format!("network {subcommand} ")), "{one}");
+        let (usage, _) = one.split_once("\n\n").expect("notes");
+        assert!(all.contains(usage), "{usage}");
+    }
+}
+
+#[test]
+fn arguments_that_mean_nothing_are_errors() {
+    let bad: [&[&str]; 13] = [
         &[],
         &["sheets"],
+        &["-h"],
+        &["--help", "x"],
         &["sheet", "a.net", "b.net"],
         &["text", "a", "b"],
-        &["report"],
-        &["report", "program"],
         &["list", "a.net", "b.net"],
+        &["import", "--core"],
+        &["import", "--core", "a", "--core", "b"],
+        &["import", "--core=a", "x", "y"],
+        &["report", "--json=yes"],
+        &["report", "--jsn"],
+        &["list", "-j"],
     ];
     for arguments in bad {
-        let (status, printed, errors) = network(arguments, b"");
-        assert_eq!((status, printed.len()), (Some(2), 0), "{arguments:?}");
-        assert!(errors.starts_with("network sheet [FILE] "), "{errors}");
+        let (status, printed, errors) = network(arguments, TRIANGLE.as_bytes());
+        assert_eq!((status, printed.len()), (Some(1), 0), "{arguments:?}");
+        assert!(errors.starts_with("network"), "{errors}");
     }
+}
+
+#[test]
+fn standard_input_is_a_dash_or_no_file_and_two_dashes_end_the_options() {
+    for arguments in [&["sheet"][..], &["sheet", "-"], &["sheet", "--", "-"]] {
+        assert_eq!(network(arguments, TRIANGLE.as_bytes()), (Some(0), CASE_A.to_vec(), String::new()));
+    }
+    let (status, _, errors) = network(&["sheet", "--", "--help"], b"");
+    assert_eq!(status, Some(1));
+    assert!(errors.starts_with("--help: "), "{errors}");
 }
 
 #[test]
@@ -58,6 +90,12 @@ fn text_becomes_a_sheet_and_text_again() {
 }
 
 #[test]
+fn names_do_not_alter_a_sheet() {
+    let named = TRIANGLE.replace("nodes 3\n", "nodes 3\nnode 1 hall-A\n").replace("1-2:2", "1-2:2 name old wire");
+    assert_eq!(network(&["sheet"], named.as_bytes()), (Some(0), CASE_A.to_vec(), String::new()));
+}
+
+#[test]
 fn trunk_numbers_become_bytes_and_text_again() {
     let text = "nodes 2\nlink 0-1:4\nlink 0-1:4 trunk 263\nlink 0-1:4\ntree share 4 links 0\n";
     let sheet = vec![2, 0, 3, 0, 1, 7, 0, 0, 1, 0, 4, 0, 0, 0, 8, 7, 1, 0, 4, 0, 0, 0, 1];
@@ -66,22 +104,58 @@ fn trunk_numbers_become_bytes_and_text_again() {
 }
 
 #[test]
-fn a_fault_names_file_and_line() {
-    let expected = "standard input:2: link 3-: expected a node number behind the '-'\n";
-    assert_eq!(network(&["sheet"], b"nodes 4\nlink 3-\n"), (Some(1), vec![], expected.to_string()));
-    let (status, printed, errors) = network(&["sheet", "missing.net"], b"");
-    assert_eq!((status, printed.len()), (Some(1), 0));
-    assert!(errors.starts_with("missing.net: "), "{errors}");
+fn a_missing_file_is_an_error() {
+    for subcommand in SUBCOMMANDS {
+        let (status, printed, errors) = network(&[subcommand, "missing.net"], b"");
+        assert_eq!((status, printed.len()), (Some(1), 0));
+        assert!(errors.starts_with("missing.net: "), "{errors}");
+    }
+}
+
+#[test]
+fn a_file_of_another_kind_is_recognised() {
+    let cables = b"from,to,capacity\na,b,1\n";
+    let text = "this is a network as text: `network sheet` turns it into a link sheet\n";
+    let list = "this is a cable list: `network import` turns it into a network as text\n";
+    let sheet = "this is by its bytes a link sheet: `network text` turns it into a network as text\n";
+    let export = "this is a network as text: `network export` turns it into a cable list\n";
+    let utf_16 = "this is text in UTF-16: save it as UTF-8\n";
+    let wide: Vec<u8> = [0xFF, 0xFE].into_iter().chain("nodes 3\n".bytes().flat_map(|byte| [byte, 0])).collect();
+    let cases: [(&str, &[u8], &str); 9] = [
+        ("text", TRIANGLE.as_bytes(), text),
+        ("text", cables, list),
+        ("sheet", &CASE_A, sheet),
+        ("sheet", cables, list),
+        ("report", &CASE_A, sheet),
+        ("list", &CASE_A, sheet),
+        ("import", &CASE_A, sheet),
+        ("import", TRIANGLE.as_bytes(), export),
+        ("sheet", &wide, utf_16),
+    ];
+    for (subcommand, input, message) in cases {
+        let expected = (Some(1), vec![], format!("standard input: {message}"));
+        assert_eq!(network(&[subcommand], input), expected, "{subcommand}");
+    }
 }
 
 #[test]
 fn a_sheet_that_will_be_refused_is_written_with_a_note() {
     let text = "nodes 3\nlink 0-1:1\nlink 0-1:1\ntree share 1 links 0 1\n";
     let sheet = vec![3, 0, 2, 0, 1, 7, 0, 0, 1, 0, 1, 0, 0, 0, 0, 1, 0, 0, 0, 3];
-    let note =
-        "standard input:4: the monitor refuses this sheet, number 15: the links of tree 0 do not join every node to \
-                node 0\n";
-    assert_eq!(network(&["sheet"], text.as_bytes()), (Some(0), sheet, note.to_string()));
+    let note = "standard input:4: the monitor refuses this network, number 15: the links of tree 0 do not join node 2 to node 0; \
+                the whole network falls apart: no links join node 2 to it\n";
+    assert_eq!(network(&["sheet"], text.as_bytes()), (Some(3), sheet, note.to_string()));
+}
+
+#[test]
+fn a_refused_network_has_no_list() {
+    let text = b"nodes 2\nlink 0-1:1\nlink 1-1:1\ntree share 1 links 0 1\ntree share 1 links\n";
+    let errors = "standard input:3: the monitor refuses this network, number 10: link 1 has node 1 at both ends\n\
+                  standard input:4: the monitor refuses this network, number 14: tree 0 names 2 of the links, and a tree of 2 nodes \
+                  has 1\n\
+                  standard input:5: the monitor refuses this network, number 14: tree 1 names 0 of the links, and a tree of 2 nodes \
+                  has 1\n";
+    assert_eq!(network(&["list"], text), (Some(3), vec![], errors.to_string()));
 }
 
 #[test]
@@ -97,26 +171,66 @@ fn a_refused_sheet_has_no_text() {
     ];
     for (sheet, words) in refusals {
         let expected = format!("standard input: the sheet is refused, {words}\n");
-        assert_eq!(network(&["text"], sheet), (Some(1), vec![], expected));
+        assert_eq!(network(&["text"], sheet), (Some(3), vec![], expected));
     }
 }
 
+const TRIANGLE_MEANING: &str =
+    "The cut severs node 1 from node 0. It crosses links 0 (0-1:3) and 1 (1-2:2), which weigh 5 together; link 0 of tree 0 names it. \
+     No cut of the whole network weighs less.\n\
+     No other cut of the whole network weighs 5.\n\
+     A new cable makes this cut heavier only if it runs between the severed node and one of the 2 other nodes. Then the weakest cut of \
+     the whole network weighs more than 5.\n";
+
 #[test]
 fn a_report_has_title_lines_and_meaning() {
-    let printed = "A triangle (triangle.net)\nanswer 2 5 5 0 0 - 1\nside 1\nThe cut severs node 1 from node 0. It crosses links 0 \
-                   (0-1:3) and 1 (1-2:2), which weigh 5 together; link 0 of tree 0 names it. No cut of the whole network weighs \
-                   less.\n";
+    let lines = "answer 2 5 5 0 0 - 1\nside 1\n";
+    let printed = format!("A triangle (standard input)\n{lines}{TRIANGLE_MEANING}");
+    assert_eq!(network(&["report"], TRIANGLE.as_bytes()), (Some(0), printed.into_bytes(), String::new()));
+    let printed = format!("A triangle (triangle.net)\n{lines}{TRIANGLE_MEANING}");
     let program = "echo answer 2 5 5 0 0 - 1; echo side 1";
-    assert_eq!(report("triangle.net", TRIANGLE, program), (Some(0), printed.to_string(), String::new()));
+    assert_eq!(report("triangle.net", TRIANGLE, program), (Some(0), printed, String::new()));
+}
+
+/// `tools/build report` builds the program.
+#[test]
+fn the_report_program_and_the_entry_report_the_same() {
+    let program = Path::new(env!("CARGO_MANIFEST_DIR")).join("../target/bin/report");
+    let mut compared = 0;
+    for entry in std::fs::read_dir(example("")).expect("examples") {
+        let file = entry.expect("a file").path().to_string_lossy().into_owned();
+        if file.ends_with(".net") {
+            let by_entry = network(&["report", &file], b"");
+            assert_eq!(by_entry, network(&["report", "--program", &program.to_string_lossy(), &file], b""));
+            let refused = file.contains("/refused-");
+            assert_eq!(by_entry.0, Some(if refused { 3 } else { 0 }), "{file}: {}", by_entry.2);
+            compared += 1;
+        }
+    }
+    assert!(compared >= 24);
+}
+
+#[test]
+fn a_report_as_json_has_a_line_for_each_file() {
+    let (status, printed, errors) = network(&["report", "--json", "-", &example("c-ring.net")], TRIANGLE.as_bytes());
+    assert_eq!((status, errors.as_str()), (Some(0), ""));
+    let printed = String::from_utf8(printed).expect("text");
+    let lines: Vec<&str> = printed.lines().collect();
+    let start = r#"{"file": "standard input", "title": "A triangle", "verdict": 2, "weight": 5, "floor": 5, "tree": 0, "first_link": 0, "second_link": null, "none_lighter": true, "severed": [{"node": 1, "name": null}], "others": "#;
+    assert!(lines[0].starts_with(start), "{}", lines[0]);
+    assert!(lines[1].contains(r#""other_cuts_as_light": 5, "list_complete": true, "one_cable_crosses_all": [], "#));
+    assert_eq!(lines.len(), 2);
+    let refused = b"nodes 2\nlink 0-1:1\n";
+    let expected = r#"{"file": "standard input", "title": null, "refused": 6, "mistakes": [{"line": 2, "number": 6, "why": "there is no tree, and the monitor needs one: `network fit` chooses trees"}]}"#;
+    assert_eq!(network(&["report", "--json"], refused), (Some(3), format!("{expected}\n").into_bytes(), String::new()));
 }
 
 #[test]
 fn a_refusal_is_explained() {
-    let text = "nodes 2\nlink 0-1:1\nlink 0-1:1\ntree share 1 links 0 1\n";
-    let named =
-        "refused.net\nrefused 14\nThe sheet is refused for line 4: tree 0 names 2 of the links, and a tree of 2 \
-                 nodes has 1.\n";
-    assert_eq!(report("refused.net", text, "echo refused 14"), (Some(0), named.to_string(), String::new()));
+    let text = "nodes 2\nlink 0-1:1\nlink 0-1:1\ntree share 1 links 0 1\ntree share 1 links\n";
+    let named = "refused.net\nrefused 14\nLine 4: tree 0 names 2 of the links, and a tree of 2 nodes has 1.\n\
+                 Line 5: tree 1 names 0 of the links, and a tree of 2 nodes has 1.\n";
+    assert_eq!(report("refused.net", text, "echo refused 14"), (Some(3), named.to_string(), String::new()));
 }
 
 #[test]
@@ -124,14 +238,19 @@ fn a_program_that_prints_no_report_is_an_error() {
     let wrong = [
         ("layout.net", "echo answer 2", "printed \"answer 2\\n\": these are not the lines of a report\n"),
         ("weight.net", "echo answer 2 6 6 0 0 - 1; echo side 1", "the links that cross the side have another weight\n"),
-        ("refusal.net", "echo refused 12", "printed \"refused 12\\n\": the sheet must not be refused\n"),
+        ("refusal.net", "echo refused 12", "the sheet must not be refused, number 12\n"),
         ("status.net", "echo refused 4; exit 3", "ended with exit status: 3\n"),
+        ("other.net", "echo answer 2 6 6 0 2 - 1; echo side 2", "the trees that count give another floor\n"),
     ];
     for (name, commands, error) in wrong {
-        let (status, printed, errors) = report(name, TRIANGLE, commands);
+        let text = TRIANGLE.replace("share 2", if name == "other.net" { "share 1" } else { "share 2" });
+        let (status, printed, errors) = report(name, &text, commands);
         assert_eq!((status, printed.as_str()), (Some(1), ""), "{name}");
         assert!(errors.starts_with(name) && errors.ends_with(error), "{errors}");
     }
+    let (status, _, errors) = network(&["report", "--program", "./no-such-program"], TRIANGLE.as_bytes());
+    assert_eq!(status, Some(1));
+    assert!(errors.starts_with("standard input: ./no-such-program: "), "{errors}");
 }
 
 #[test]
@@ -147,16 +266,16 @@ fn another_refusal_than_the_networks_and_an_answer_are_an_error() {
 }
 
 #[test]
-fn reports_end_at_the_first_that_cannot_be_printed() {
-    let program = stand_in("unprinted.program", "echo refused 4");
-    let arguments = ["report", &program.to_string_lossy(), "/dev/stdin", "missing.net"];
-    let mut unread = start(&arguments, Stdio::piped());
-    drop(unread.stdout.take());
-    assert_eq!(finish(unread, b"nodes 1\n"), (Some(1), vec![], String::new()));
-    let full = File::create("/dev/full").expect("a file that cannot be written");
-    let (status, _, errors) = finish(start(&arguments, full.into()), b"nodes 1\n");
-    assert_eq!((status, errors.lines().count()), (Some(1), 1), "{errors}");
-    assert!(errors.starts_with("standard output: "), "{errors}");
+fn lost_output_is_an_error() {
+    for subcommand in ["sheet", "report", "list", "export", "--help"] {
+        let mut unread = start(&[subcommand], Stdio::piped());
+        drop(unread.stdout.take());
+        assert_eq!(finish(unread, TRIANGLE.as_bytes()), (Some(1), vec![], String::new()), "{subcommand}");
+        let full = File::create("/dev/full").expect("a file that cannot be written");
+        let (status, _, errors) = finish(start(&[subcommand], full.into()), TRIANGLE.as_bytes());
+        assert_eq!((status, errors.lines().count()), (Some(1), 1), "{errors}");
+        assert!(errors.starts_with("standard output: "), "{errors}");
+    }
 }
 
 #[test]
@@ -164,12 +283,9 @@ fn a_fault_in_one_file_leaves_the_others_their_reports() {
     let folder = Path::new(env!("CARGO_TARGET_TMPDIR"));
     std::fs::write(folder.join("faulty.net"), "nodes\n").expect("a file for the network");
     std::fs::write(folder.join("sound.net"), "nodes 1\n").expect("a file for the network");
-    let program = stand_in("both.program", "echo refused 4");
-    let (status, printed, errors) = network(&["report", &program.to_string_lossy(), "faulty.net", "sound.net"], b"");
+    let (status, printed, errors) = network(&["report", "faulty.net", "sound.net"], b"");
     assert_eq!(status, Some(1));
     assert_eq!(errors, "faulty.net:1: nodes: expected a node count behind 'nodes'\n");
-    let expected =
-        "\nsound.net\nrefused 4\nThe sheet is refused for line 1: the node count is 1, and the monitor takes 2 to \
-                    256.\n";
+    let expected = "\nsound.net\nrefused 4\nLine 1: the node count is 1, and the monitor takes 2 to 256.\n";
     assert_eq!(String::from_utf8(printed).expect("text"), expected);
 }

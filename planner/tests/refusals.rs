@@ -4,7 +4,7 @@
 mod command;
 
 use command::network;
-use planner::explain;
+use planner::mistakes;
 use reference::documented::{self, CASE_A};
 use reference::sheet;
 
@@ -108,17 +108,20 @@ fn refused_sheets() -> Vec<(u32, Vec<u8>)> {
 
 /// For each message of the table on a text, in its order: a text, and what the letters of the message stand for.
 fn refused_texts() -> Vec<(String, Vec<(&'static str, u32)>)> {
-    let many_links = "link 0-1:1\n".repeat(2049);
+    let many = |record: &str, count| format!("{record}\n").repeat(count);
+    let (link, tree) = ("link 0-1:1", "tree share 1 links 0");
     let text = |records: &str| format!("nodes 3\nlink 0-1:1\n{records}\n");
     vec![
         ("nodes 257\n".to_string(), vec![("n", 257)]),
-        (text("tree share 1 links 0"), vec![("m", 1), ("n", 3), ("n − 1", 2)]),
-        (format!("nodes 2\n{many_links}tree share 1 links 0\n"), vec![("m", 2049)]),
-        (text("link 1-2:1"), vec![("t", 0)]),
-        (text("link 1-7:1\ntree share 1 links 0 1"), vec![("k", 1), ("e", 7), ("n − 1", 2)]),
-        (text("link 2-2:1\ntree share 1 links 0 1"), vec![("k", 1), ("e", 2)]),
+        (text("tree share 1 links 0 "), vec![("m", 1), ("n", 3), ("n − 1", 2)]),
+        (format!("nodes 2\n{}{tree}\n", many(link, 2049)), vec![("m", 2049)]),
+        (text("link 1-2:1"), vec![]),
+        (format!("nodes 2\n{link}\n{}", many(tree, 33)), vec![("t", 33)]),
+        (text("link 1-7:1\nlink 1-2:1\ntree share 1 links 0 2"), vec![("k", 1), ("e", 7), ("n − 1", 2)]),
+        (text("link 2-2:1\nlink 1-2:1\ntree share 1 links 0 2"), vec![("k", 1), ("e", 2)]),
         (text("link 1-2:1\ntree share 1 links 0"), vec![("i", 0), ("c", 1), ("n", 3), ("n − 1", 2)]),
-        (text("link 1-0:1\ntree share 1 links 0 1"), vec![("i", 0)]),
+        (text("link 1-0:1\nlink 1-2:1\ntree share 1 links 0 1"), vec![("i", 0), ("v", 2)]),
+        (text("link 1-0:1\ntree share 1 links 0 1"), vec![("i", 0), ("v", 2), ("w", 2)]),
     ]
 }
 
@@ -134,7 +137,7 @@ fn filled(message: &str, numbers: &[(&str, u32)]) -> String {
 #[test]
 fn the_table_has_each_number_once() {
     let numbers: Vec<u32> = table().iter().map(|row| row.refusal.number).collect();
-    let all: Vec<u32> = (1..ABOVE_ALL).filter(|&number| explain::meaning(number).is_some()).collect();
+    let all: Vec<u32> = (1..ABOVE_ALL).filter(|&number| mistakes::meaning(number).is_some()).collect();
     assert_eq!(numbers, all);
 }
 
@@ -154,13 +157,13 @@ fn the_code_has_the_tables_constants_and_words() {
 #[test]
 fn the_command_has_the_tables_words_for_each_number() {
     for Row { refusal: Refusal { number, case, .. }, .. } in table() {
-        assert_eq!(explain::meaning(number), Some(&*case), "number {number}");
+        assert_eq!(mistakes::meaning(number), Some(&*case), "number {number}");
         let Some((_, sheet)) = refused_sheets().into_iter().find(|(refused, _)| *refused == number) else {
             assert!(WITHOUT_A_SHEET.contains(&number), "no sheet for number {number}");
             continue;
         };
         let (status, printed, said) = network(&["text"], &sheet);
-        assert_eq!((status, printed.len()), (Some(1), 0), "number {number}");
+        assert_eq!((status, printed.len()), (Some(3), 0), "number {number}");
         let start = format!("standard input: the sheet is refused, number {number}, at ");
         let (_, words) = said.strip_prefix(&start).and_then(|rest| rest.split_once(": ")).expect(&said);
         assert_eq!(words, format!("{case}\n"));
@@ -177,8 +180,9 @@ fn the_command_has_the_tables_words_for_a_refused_text() {
     assert_eq!(messages.len(), texts.len(), "{messages:?}");
     for ((number, message), (text, numbers)) in messages.iter().zip(&texts) {
         let (status, _, said) = network(&["sheet"], text.as_bytes());
-        assert_eq!(status, Some(0), "{said}");
-        let (_, words) = said.split_once(": the monitor refuses this sheet, ").expect(&said);
-        assert_eq!(words, format!("number {number}: {}\n", filled(message, numbers)));
+        assert_eq!(status, Some(3), "{said}");
+        let (first, _) = said.split_once('\n').expect(&said);
+        let (_, words) = first.split_once(": the monitor refuses this network, ").expect(first);
+        assert_eq!(words, format!("number {number}: {}", filled(message, numbers)));
     }
 }

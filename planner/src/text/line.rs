@@ -1,9 +1,16 @@
 //! One line of a text, read from left to right.
 
 use super::Fault;
+use crate::names;
 
 /// How many characters of a line or a word a fault repeats.
 const MOST_REPEATED: usize = 60;
+
+/// The largest number that a field of a sheet holds, and the largest that the monitor takes there.
+pub struct Limit {
+    pub field: u64,
+    pub monitor: u64,
+}
 
 /// A line without its comment, and what of it is not read yet.
 pub struct Line<'a> {
@@ -14,7 +21,7 @@ pub struct Line<'a> {
 
 impl<'a> Line<'a> {
     pub fn new(number: usize, line: &'a str) -> Self {
-        let text = line.split('#').next().unwrap_or_default().trim();
+        let text = line[..comment_start(line)].trim();
         Line { number, text, unread: text }
     }
 
@@ -68,13 +75,10 @@ impl<'a> Line<'a> {
         Ok(())
     }
 
-    /// Takes the word, unless the line has ended; whether the word was there.
-    pub fn word_or_end(&mut self, word: &str, behind: &str) -> Result<bool, Fault> {
-        if self.ended() {
-            return Ok(false);
-        }
+    /// Takes the word, if it comes next; whether it did.
+    pub fn word_if(&mut self, word: &str, behind: &str) -> Result<bool, Fault> {
         if self.next_word() != word {
-            return self.fault_here(&format!("'{word}' or the end of the line behind {behind}"));
+            return Ok(false);
         }
         self.expect_word(word, behind)?;
         Ok(true)
@@ -88,29 +92,60 @@ impl<'a> Line<'a> {
         Ok(())
     }
 
-    pub fn expect_number(&mut self, expected: &str, most: u64) -> Result<u64, Fault> {
+    pub fn expect_number(&mut self, expected: &str, limit: Limit) -> Result<u64, Fault> {
         let digits = self.unread.bytes().take_while(u8::is_ascii_digit).count();
         if digits == 0 {
             return self.fault_here(expected);
         }
         match self.unread[..digits].parse() {
-            Ok(number) if number <= most => {
+            Ok(number) if number <= limit.field => {
                 self.take(digits);
                 Ok(number)
             }
             _ => {
                 let found = shortened(&self.unread[..digits]);
-                self.fault(&format!("expected {expected} that is at most {most}, found '{found}'"))
+                self.fault(&format!("expected {expected} that is at most {}, found '{found}'", limit.monitor))
             }
         }
     }
 
-    pub fn expect_end(&self, behind: &str) -> Result<(), Fault> {
+    /// The name that is the rest of the line, plain or in quotes.
+    pub fn expect_name(&mut self, behind: &str) -> Result<String, Fault> {
+        let rest = self.take(self.unread.len()).trim_end();
+        let unquoted = match rest.strip_prefix('"') {
+            None => rest.to_string(),
+            Some(open) => match open.strip_suffix('"').filter(|inside| !inside.replace("\"\"", "").contains('"')) {
+                Some(inside) => inside.replace("\"\"", "\""),
+                None => {
+                    return self
+                        .fault(&format!("expected a name in quotes behind {behind}, with each quote inside twice"))
+                }
+            },
+        };
+        names::tidy(&unquoted).or_else(|expected| self.fault(&format!("expected {expected} behind {behind}")))
+    }
+
+    pub fn expect_end(&self, expected: &str) -> Result<(), Fault> {
         if self.ended() {
             return Ok(());
         }
-        self.fault_here(&format!("nothing more behind {behind}"))
+        self.fault_here(expected)
     }
+}
+
+/// Where the comment of a line starts: at the first `#` that is not inside quotes. Quotes open where a word does.
+fn comment_start(line: &str) -> usize {
+    let (mut quoted, mut before) = (false, ' ');
+    for (place, character) in line.char_indices() {
+        match character {
+            '#' if !quoted => return place,
+            '"' if quoted || before.is_whitespace() => quoted = !quoted,
+            '"' if before == '"' => quoted = true,
+            _ => {}
+        }
+        before = character;
+    }
+    line.len()
 }
 
 /// A part of a text as a fault repeats it: its start, if it is long.

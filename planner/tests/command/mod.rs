@@ -1,6 +1,7 @@
 //! Runs the command `network`, in the folder that cargo has for tests.
 
 use std::io::Write;
+use std::path::Path;
 use std::process::{Child, Command, Stdio};
 
 pub fn start(arguments: &[&str], output: Stdio) -> Child {
@@ -25,4 +26,10 @@ pub fn finish(mut child: Child, input: &[u8]) -> (Option<i32>, Vec<u8>, String) 
 /// The same of the command with these arguments.
 pub fn network(arguments: &[&str], input: &[u8]) -> (Option<i32>, Vec<u8>, String) {
     finish(start(arguments, Stdio::piped()), input)
+}
+
+/// The path of a file in `examples/`.
+#[allow(dead_code)] // not every test reads an example
+pub fn example(name: &str) -> String {
+    Path::new(env!("CARGO_MANIFEST_DIR")).join("../examples").join(name).to_string_lossy().into_owned()
 }

@@ -1,0 +1,185 @@
+//! What the subcommands do.
+
+use crate::arguments::Arguments;
+use planner::findings::{self, Findings};
+use planner::input::{Kind, Source};
+use planner::mistakes::{self, Mistake};
+use planner::text::{self, Parsed};
+use planner::{cables, names, unit};
+use reference::sheet::{self, Place, Refusal, MOST_LINKS};
+use std::ffi::{OsStr, OsString};
+use std::io::{self, ErrorKind, Write};
+use std::process;
+
+/// How a subcommand ended; the worst is the last.
+#[derive(Clone, Copy, Debug, PartialEq, Eq, PartialOrd, Ord)]
+pub enum Outcome {
+    Accepted,
+    /// The monitor refuses the network, and why was said.
+    Refused,
+    /// An error, and it was said.
+    Failed,
+}
+
+/// The error is what is wrong and was not said yet, a line for each mistake.
+pub type Done = Result<Outcome, String>;
+
+const NOT_PRINTED: i32 = 1;
+
+/// Prints to standard output. If that fails, the command ends, without a message if nobody reads any more.
+pub fn print(bytes: &[u8]) {
+    let mut output = io::stdout().lock();
+    if let Err(error) = output.write_all(bytes).and_then(|()| output.flush()) {
+        if error.kind() != ErrorKind::BrokenPipe {
+            complain(&format!("standard output: {error}"));
+        }
+        process::exit(NOT_PRINTED);
+    }
+}
+
+/// Prints to standard error, as far as that can be had.
+fn complain(message: &str) {
+    let _ = writeln!(io::stderr(), "{message}");
+}
+
+/// How a subcommand ended, with what is wrong said.
+pub fn settled(done: Done) -> Outcome {
+    done.unwrap_or_else(|error| {
+        complain(&error);
+        Outcome::Failed
+    })
+}
+
+/// The monitor refuses the network of a text for these mistakes.
+fn refused(source: &Source, mistakes: &[(usize, Mistake)]) -> Outcome {
+    mistakes.iter().for_each(|(line, mistake)| complain(&format!("{}:{line}: {mistake}", source.name())));
+    Outcome::Refused
+}
+
+/// An argument as text.
+fn argument(given: &OsStr) -> Result<&str, String> {
+    given.to_str().ok_or_else(|| format!("'{}': expected text in UTF-8", given.to_string_lossy()))
+}
+
+pub fn import(arguments: &Arguments) -> Done {
+    let source = arguments.source();
+    let cables = source.cables()?;
+    let core = arguments.value("--core").map(argument).transpose()?;
+    let (contents, names) = cables::network(&cables, core)
+        .ok_or_else(|| format!("{}: no cable ends at the core switch '{}'", source.name(), core.unwrap_or_default()))?;
+    print(text::write(&contents, &names).as_bytes());
+    Ok(Outcome::Accepted)
+}
+
+pub fn export(arguments: &Arguments) -> Done {
+    let source = arguments.source();
+    let (parsed, _) = source.text()?;
+    let mistakes = link_mistakes(&parsed);
+    if !mistakes.is_empty() {
+        return Ok(refused(&source, &mistakes));
+    }
+    let list = cables::write(&parsed.contents.network, &parsed.names).map_err(|bare| {
+        format!("{}: no link ends at {}, and a cable list has no place for it", source.name(), parsed.names.node(bare))
+    })?;
+    print(list.as_bytes());
+    Ok(Outcome::Accepted)
+}
+
+/// What the monitor refuses of a text beside its trees.
+fn link_mistakes(parsed: &Parsed) -> Vec<(usize, Mistake)> {
+    let few_links = parsed.contents.network.links.len() <= MOST_LINKS;
+    let of_links = |mistake: &Mistake| match mistake.place {
+        Place::Header => mistake.number == mistakes::NODE_COUNT || mistake.number == mistakes::LINK_COUNT && !few_links,
+        Place::Link(_) => true,
+        Place::Tree(_) | Place::End => false,
+    };
+    parsed.mistakes().into_iter().filter(|(_, mistake)| of_links(mistake)).collect()
+}
+
+/// Writes the sheet, also one that the monitor refuses.
+pub fn sheet(arguments: &Arguments) -> Done {
+    let source = arguments.source();
+    let (parsed, _) = source.text()?;
+    print(&sheet::write_contents(&parsed.contents));
+    let mistakes = parsed.mistakes();
+    match mistakes.is_empty() {
+        true => Ok(Outcome::Accepted),
+        false => Ok(refused(&source, &mistakes)),
+    }
+}
+
+pub fn text(arguments: &Arguments) -> Done {
+    let source = arguments.source();
+    match sheet::read_contents(&source.read(Kind::Sheet)?) {
+        Ok(contents) => {
+            let names = names::Names::none(contents.network.nodes, contents.network.links.len());
+            print(text::write(&contents, &names).as_bytes());
+            Ok(Outcome::Accepted)
+        }
+        Err(Refusal { number, place }) => {
+            let (place, meaning) = (mistakes::place_name(place), mistakes::meaning(number).unwrap_or_default());
+            complain(&format!("{}: the sheet is refused, number {number}, at {place}: {meaning}", source.name()));
+            Ok(Outcome::Refused)
+        }
+    }
+}
+
+/// Reports on every file, whether or not there was an error with one before.
+pub fn report(arguments: &Arguments) -> Done {
+    let standard_input = [OsString::from("-")];
+    let files = if arguments.operands().is_empty() { &standard_input } else { arguments.operands() };
+    let mut outcome = Outcome::Accepted;
+    for (place, file) in files.iter().enumerate() {
+        if place > 0 && !arguments.has("--json") {
+            print(b"\n");
+        }
+        outcome = outcome.max(settled(report_on(&Source::new(file), arguments)));
+    }
+    Ok(outcome)
+}
+
+/// Prints the title of a network and its path as given, the report's lines for it, and what they mean.
+fn report_on(source: &Source, arguments: &Arguments) -> Done {
+    let (name, (parsed, _)) = (source.name(), source.text()?);
+    let said = findings::find(&parsed, arguments.value("--program")).map_err(|error| format!("{name}: {error}"))?;
+    let json = arguments.has("--json");
+    let (outcome, lines, meaning, record) = match &said {
+        Ok(findings) => {
+            let meaning = findings.sentences().join("\n");
+            (Outcome::Accepted, findings.lines(), meaning, json.then(|| findings.report_record(&name)))
+        }
+        Err(number) => {
+            let mistakes = parsed.mistakes();
+            let why = |(line, mistake): &(usize, Mistake)| format!("Line {line}: {}.", mistake.why);
+            let meaning = mistakes.iter().map(why).collect::<Vec<_>>().join("\n");
+            let record = json.then(|| findings::refusal(&name, &parsed, *number, &mistakes));
+            (Outcome::Refused, unit::lines(&Err(*number)), meaning, record)
+        }
+    };
+    let title = parsed.title.as_ref().map_or(name.clone(), |title| format!("{title} ({name})"));
+    match record {
+        Some(record) => print(format!("{record}\n").as_bytes()),
+        None => print(format!("{title}\n{lines}{meaning}\n").as_bytes()),
+    }
+    Ok(outcome)
+}
+
+/// Does something with the findings for the network of the one file given.
+fn with_findings(arguments: &Arguments, act: impl FnOnce(&str, &Findings)) -> Done {
+    let source = arguments.source();
+    let (parsed, _) = source.text()?;
+    match findings::find(&parsed, None).map_err(|error| format!("{}: {error}", source.name()))? {
+        Ok(findings) => {
+            act(&source.name(), &findings);
+            Ok(Outcome::Accepted)
+        }
+        Err(_) => Ok(refused(&source, &parsed.mistakes())),
+    }
+}
+
+pub fn list(arguments: &Arguments) -> Done {
+    with_findings(arguments, |name, findings| match arguments.has("--json") {
+        true => findings.list_record(name).for_each(|part| print(part.as_bytes())),
+        false => findings.list_lines().for_each(|line| print(line.as_bytes())),
+    })
+}

@@ -1,0 +1,101 @@
+//! The findings as JSON; docs/REPORT.md describes the fields.
+
+use super::cable::Groups;
+use super::{cut, Findings, Unlisted};
+use crate::json::Json;
+use crate::mistakes::Mistake;
+use crate::text::Parsed;
+use reference::cuts;
+use reference::list;
+use reference::report::Side;
+
+impl Findings<'_> {
+    /// The report of a file.
+    pub fn report_record(&self, file: &str) -> Json {
+        let candidate = self.answer.candidate;
+        let mut fields = head(file, self.parsed);
+        fields.extend([
+            ("verdict", usize::from(self.answer.verdict).into()),
+            ("weight", candidate.weight.into()),
+            ("floor", self.answer.floor.into()),
+            ("tree", candidate.tree.into()),
+            ("first_link", candidate.first.into()),
+            ("second_link", candidate.second.into()),
+            ("none_lighter", (self.answer.verdict == cuts::WHOLE).into()),
+            ("severed", self.node_records(&self.answer.side)),
+            ("others", self.node_records(&self.rest())),
+            ("crossing", self.link_records(&self.crossing)),
+            ("other_cuts_as_light", self.others().into()),
+            ("list_complete", (self.unlisted() == Unlisted::Heavier).into()),
+            ("one_cable_crosses_all", self.crossing_all().iter().map(|groups| self.groups_record(groups)).collect()),
+            ("sentences", self.sentences().iter().map(String::as_str).collect()),
+        ]);
+        Json::Record(fields)
+    }
+
+    /// The list of a file, in parts that follow one another, since there may be very many cuts.
+    pub fn list_record(&self, file: &str) -> impl Iterator<Item = String> + '_ {
+        let mut fields = head(file, self.parsed);
+        fields.extend([
+            ("weight", self.weight().into()),
+            ("none_lighter", (self.unlisted() != Unlisted::Unknown).into()),
+            ("list_complete", (self.unlisted() == Unlisted::Heavier).into()),
+        ]);
+        let head = Json::Record(fields).to_string();
+        let start = format!("{}, \"cuts\": [", head.trim_end_matches('}'));
+        let cut = |(place, side): (usize, &Side)| {
+            let nodes = list::nodes(side);
+            let crossing = cut::crossing(self.network(), &nodes);
+            let fields = vec![("severed", self.node_records(&nodes)), ("crossing", self.link_records(&crossing))];
+            format!("{}{}", if place > 0 { ", " } else { "" }, Json::Record(fields))
+        };
+        let cuts = self.sides.iter().enumerate().map(cut);
+        std::iter::once(start).chain(cuts).chain(std::iter::once("]}\n".to_string()))
+    }
+
+    fn node_record(&self, node: usize) -> Json {
+        Json::Record(vec![("node", node.into()), ("name", self.names().nodes[node].as_deref().into())])
+    }
+
+    fn node_records(&self, nodes: &[usize]) -> Json {
+        nodes.iter().map(|&node| self.node_record(node)).collect()
+    }
+
+    fn link_records(&self, links: &[usize]) -> Json {
+        let link = |&link: &usize| {
+            let ends = self.network().links[link];
+            Json::Record(vec![
+                ("link", link.into()),
+                ("name", self.names().links[link].as_deref().into()),
+                ("first", self.node_record(ends.first)),
+                ("second", self.node_record(ends.second)),
+                ("weight", ends.weight.into()),
+            ])
+        };
+        links.iter().map(link).collect()
+    }
+
+    fn groups_record(&self, Groups { from, to }: &Groups) -> Json {
+        Json::Record(vec![("from", self.node_records(from)), ("to", self.node_records(to))])
+    }
+}
+
+/// A file whose network the monitor refuses, with all mistakes and their lines.
+pub fn refusal(file: &str, parsed: &Parsed, number: u32, mistakes: &[(usize, Mistake)]) -> Json {
+    let mistake = |(line, mistake): &(usize, Mistake)| {
+        let Mistake { number, why, .. } = mistake;
+        Json::Record(vec![
+            ("line", (*line).into()),
+            ("number", u64::from(*number).into()),
+            ("why", why.as_str().into()),
+        ])
+    };
+    let mut fields = head(file, parsed);
+    fields.push(("refused", u64::from(number).into()));
+    fields.push(("mistakes", mistakes.iter().map(mistake).collect()));
+    Json::Record(fields)
+}
+
+fn head(file: &str, parsed: &Parsed) -> Vec<(&'static str, Json)> {
+    vec![("file", file.into()), ("title", parsed.title.as_deref().into())]
+}

@@ -1,0 +1,147 @@
+//! Names of nodes and links: how they are told apart, written and shown.
+
+/// What may stand around a name in a sentence, and so sets a name that holds it in quotes.
+const PUNCTUATION: [char; 6] = [',', ';', ':', '(', ')', '"'];
+
+/// The names of a network's nodes and links, for those that have one. No two nodes have the same.
+#[derive(Clone, Debug, PartialEq, Eq)]
+pub struct Names {
+    pub nodes: Vec<Option<String>>,
+    pub links: Vec<Option<String>>,
+}
+
+impl Names {
+    /// Of a network without names.
+    pub fn none(nodes: usize, links: usize) -> Names {
+        Names { nodes: vec![None; nodes], links: vec![None; links] }
+    }
+
+    /// The node that is meant by a name or, where no name is a number, by its number.
+    pub fn find_node(&self, word: &str) -> Option<usize> {
+        let named = self.nodes.iter().position(|name| name.as_deref() == Some(word));
+        let numbers_are_names = self.nodes.iter().flatten().any(|name| is_number(name));
+        let numbered = || word.parse().ok().filter(|&node| is_number(word) && node < self.nodes.len());
+        named.or_else(|| if numbers_are_names { None } else { numbered() })
+    }
+
+    /// `hall-B`, `node 3`.
+    pub fn node(&self, node: usize) -> String {
+        self.nodes[node].as_deref().map_or_else(|| format!("node {node}"), shown)
+    }
+
+    /// `node 1`, `nodes 1 and 2`, `hall-A and hall-B`, `hall-A and node 2`.
+    pub fn node_list(&self, nodes: &[usize]) -> String {
+        match nodes {
+            [_, _, ..] if nodes.iter().all(|&node| self.nodes[node].is_none()) => {
+                format!("nodes {}", enumeration(nodes.iter().map(usize::to_string).collect()))
+            }
+            _ => enumeration(nodes.iter().map(|&node| self.node(node)).collect()),
+        }
+    }
+
+    /// `3`, `10 radio bridge`.
+    pub fn link(&self, link: usize) -> String {
+        self.links[link].as_deref().map_or_else(|| link.to_string(), |name| format!("{link} {}", shown(name)))
+    }
+
+    /// `2-3`, `hall-A to hall-B`, `hall-A to node 3`.
+    pub fn ends(&self, first: usize, second: usize) -> String {
+        match (&self.nodes[first], &self.nodes[second]) {
+            (None, None) => format!("{first}-{second}"),
+            _ => format!("{} to {}", self.node(first), self.node(second)),
+        }
+    }
+}
+
+/// A name with single spaces; the error says why it is none.
+pub fn tidy(text: &str) -> Result<String, &'static str> {
+    let words: Vec<&str> = text.split_whitespace().collect();
+    let name = words.join(" ");
+    match name.chars().any(char::is_control) {
+        true => Err("a name without control characters"),
+        false if name.is_empty() => Err("a name"),
+        false => Ok(name),
+    }
+}
+
+pub fn is_number(name: &str) -> bool {
+    !name.is_empty() && name.bytes().all(|byte| byte.is_ascii_digit())
+}
+
+/// A name as a text has it: in quotes where a part of it would be taken for a comment or for quotes.
+pub fn written(name: &str) -> String {
+    match name.starts_with('"') || name.contains('#') {
+        true => quoted(name),
+        false => name.to_string(),
+    }
+}
+
+/// A name as a sentence has it: in quotes where it could be taken for something else.
+fn shown(name: &str) -> String {
+    match name.contains(PUNCTUATION) || is_number(name) || name.starts_with("node ") || name.contains(" and ") {
+        true => quoted(name),
+        false => name.to_string(),
+    }
+}
+
+/// In quotes, with each quote inside twice.
+pub fn quoted(text: &str) -> String {
+    format!("\"{}\"", text.replace('"', "\"\""))
+}
+
+/// `a`, `a and b`, `a, b and c`.
+pub fn enumeration(words: Vec<String>) -> String {
+    match &words[..] {
+        [front @ .., last] if !front.is_empty() => format!("{} and {last}", front.join(", ")),
+        _ => words.concat(),
+    }
+}
+
+#[cfg(test)]
+mod tests {
+    use super::*;
+
+    fn names(nodes: &[Option<&str>]) -> Names {
+        Names { nodes: nodes.iter().map(|name| name.map(str::to_string)).collect(), links: vec![] }
+    }
+
+    #[test]
+    fn nodes_are_found_by_name_and_by_number() {
+        let some = names(&[Some("core"), None, Some("hall B")]);
+        assert_eq!(["core", "hall B", "0", "1", "2"].map(|word| some.find_node(word)), [0, 2, 0, 1, 2].map(Some));
+        assert_eq!(["hall", "3", "", "-1", "+1", "1 "].map(|word| some.find_node(word)), [None; 6]);
+        let numbered = names(&[Some("7"), Some("1"), Some("x")]);
+        assert_eq!(
+            ["7", "1", "x", "0", "2"].map(|word| numbered.find_node(word)),
+            [Some(0), Some(1), Some(2), None, None]
+        );
+    }
+
+    #[test]
+    fn numbers_stand_where_there_is_no_name() {
+        let some = names(&[Some("core"), None, Some("hall B"), None]);
+        assert_eq!(some.node_list(&[1]), "node 1");
+        assert_eq!(some.node_list(&[1, 3]), "nodes 1 and 3");
+        assert_eq!(some.node_list(&[0, 1, 2, 3]), "core, node 1, hall B and node 3");
+        assert_eq!(
+            (some.ends(3, 1), some.ends(3, 0), some.ends(2, 1)),
+            ("3-1".into(), "node 3 to core".into(), "hall B to node 1".into())
+        );
+    }
+
+    #[test]
+    fn a_name_that_could_mislead_is_quoted() {
+        let plain = ["hall-B", "Hall B/2", "Kühlhaus #3", "nodes", "17a"];
+        plain.iter().for_each(|name| assert_eq!(shown(name), *name));
+        let misleading = ["17", "node 5", "B, north", "B (old)", "up and down", "a:1"];
+        misleading.iter().for_each(|name| assert_eq!(shown(name), format!("\"{name}\"")));
+        assert_eq!(shown("the \"old\" hall"), "\"the \"\"old\"\" hall\"");
+    }
+
+    #[test]
+    fn names_are_tidied() {
+        assert_eq!(tidy("  hall \t B "), Ok("hall B".to_string()));
+        assert_eq!(tidy(" \t"), Err("a name"));
+        assert_eq!(tidy("hall\u{7}"), Err("a name without control characters"));
+    }
+}
