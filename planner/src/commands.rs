@@ -5,8 +5,9 @@ use planner::findings::{self, Findings};
 use planner::input::{Kind, Source};
 use planner::mistakes::{self, Mistake};
 use planner::text::{self, Parsed};
-use planner::{cables, names, unit};
-use reference::sheet::{self, Place, Refusal, MOST_LINKS};
+use planner::{cables, edit, names, unit};
+use reference::network::Link;
+use reference::sheet::{self, Place, Refusal, MOST_LINKS, MOST_WEIGHT};
 use std::ffi::{OsStr, OsString};
 use std::io::{self, ErrorKind, Write};
 use std::process;
@@ -94,6 +95,33 @@ fn link_mistakes(parsed: &Parsed) -> Vec<(usize, Mistake)> {
         Place::Tree(_) | Place::End => false,
     };
     parsed.mistakes().into_iter().filter(|(_, mistake)| of_links(mistake)).collect()
+}
+
+pub fn append(arguments: &Arguments) -> Done {
+    let source = arguments.source();
+    let operands = arguments.operands()[1..].iter().map(|operand| argument(operand));
+    let operands: Vec<&str> = operands.collect::<Result<_, _>>()?;
+    let (parsed, text) = source.text()?;
+    let node = |word: &str| {
+        let found = names::tidy(word).ok().and_then(|name| parsed.names.find_node(&name));
+        found.ok_or_else(|| format!("{}: there is no node '{}'", source.name(), text::shortened(word)))
+    };
+    let (first, second) = (node(operands[0])?, node(operands[1])?);
+    if first == second {
+        return Err(format!("{}: a cable cannot have {} at both ends", source.name(), parsed.names.node(first)));
+    }
+    let weight = Some(operands[2]).filter(|digits| names::is_number(digits)).and_then(|digits| digits.parse().ok());
+    let Some(weight) = weight.filter(|&weight| weight <= MOST_WEIGHT) else {
+        let found = text::shortened(operands[2]);
+        return Err(format!("'{found}': expected a capacity in digits that is at most {MOST_WEIGHT}"));
+    };
+    if parsed.contents.network.links.len() == MOST_LINKS {
+        return Err(format!("{}: the network has {MOST_LINKS} links, and the monitor takes no more", source.name()));
+    }
+    let name = operands.get(3).map(|name| names::tidy(name)).transpose();
+    let name = name.map_err(|expected| format!("expected {expected} of the cable"))?;
+    print(edit::with_link(&text, &parsed, &Link { first, second, weight }, name.as_deref()).as_bytes());
+    Ok(Outcome::Accepted)
 }
 
 /// Writes the sheet, also one that the monitor refuses.

@@ -2,6 +2,7 @@
 //! words and as JSON. The answers come from the proved code (`unit`); all else here is tested, not proved.
 
 pub mod cables;
+pub mod edit;
 pub mod findings;
 pub mod input;
 pub mod json;

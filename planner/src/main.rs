@@ -27,7 +27,7 @@ const JSON: Flag = Flag { name: "--json", value: None };
 const CORE: Flag = Flag { name: "--core", value: Some("SWITCH") };
 const PROGRAM: Flag = Flag { name: "--program", value: Some("PROGRAM") };
 
-const SUBCOMMANDS: [Subcommand; 6] = [
+const SUBCOMMANDS: [Subcommand; 7] = [
     Subcommand {
         name: "import",
         operands: "[CABLES]",
@@ -52,6 +52,14 @@ const SUBCOMMANDS: [Subcommand; 6] = [
         flags: &[JSON],
         about: "lists every cut as light as the reported one, smallest side first",
         run: commands::list,
+    },
+    Subcommand {
+        name: "append",
+        operands: "FILE FROM TO CAPACITY [NAME]",
+        count: 4..=5,
+        flags: &[],
+        about: "adds a cable between two nodes of a network, by name or number, so that its trees stay right",
+        run: commands::append,
     },
     Subcommand {
         name: "export",

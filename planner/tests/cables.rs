@@ -1,8 +1,10 @@
-//! Cable lists, as a planner turns them into texts and back.
+//! From a cable list to a report, as a planner goes: `import`, `append` and `export`.
 
 mod command;
 
 use command::network;
+use planner::text;
+use reference::network::Network;
 
 /// What the command prints, if it ends well and says nothing else.
 #[track_caller]
@@ -10,6 +12,10 @@ fn printed(arguments: &[&str], input: &str) -> String {
     let (status, printed, errors) = network(arguments, input.as_bytes());
     assert_eq!((status, errors.as_str()), (Some(0), ""), "{arguments:?}");
     String::from_utf8(printed).expect("text")
+}
+
+fn read(text: &str) -> Network {
+    text::parse(text.as_bytes()).expect("a network").contents.network
 }
 
 const CABLES: &str =
@@ -41,6 +47,43 @@ fn links_that_the_monitor_refuses_cannot_be_exported() {
     let message = "standard input:1: the monitor refuses this network, number 4: the node count is 257, and the monitor takes 2 to \
                    256\n";
     assert_eq!(network(&["export"], nodes), (Some(3), vec![], message.to_string()));
+}
+
+#[test]
+fn an_appended_cable_leaves_the_trees_right() {
+    let text = format!("{IMPORTED}tree share 50 links 0 1\n");
+    let longer = printed(&["append", "-", "hall B, north", "core", "70", "second wire"], &text);
+    let line = "link 2-0:70 name second wire\n";
+    assert_eq!(longer.replace(line, ""), text);
+    let before = longer.split_once(line).map(|(before, _)| before.lines().last().expect("a line").to_string());
+    assert_eq!(before.as_deref(), Some("link 1-2:50 name radio"));
+    assert_eq!(read(&longer).trees, read(&text).trees);
+    assert!(printed(&["report"], &longer).contains("It crosses links 1 (core to \"hall B, north\":100), 2 radio ("));
+    let trunks = "nodes 2\nlink 0-1:1 trunk 7\ntree share 1 links 0\n";
+    let expected = "nodes 2\nlink 0-1:1 trunk 7\nlink 1-0:5 trunk 0\ntree share 1 links 0\n";
+    assert_eq!(printed(&["append", "-", "1", "0", "5"], trunks), expected);
+}
+
+#[test]
+fn a_cable_that_cannot_be_appended_is_an_error() {
+    let full = format!("nodes 2\n{}", "link 0-1:1\n".repeat(2048));
+    let cases: [(&str, &[&str], &str); 7] = [
+        (IMPORTED, &["hall-C", "core", "1"], "standard input: there is no node 'hall-C'\n"),
+        (IMPORTED, &["hall-A", "3", "1"], "standard input: there is no node '3'\n"),
+        (IMPORTED, &["hall-A", "1", "1"], "standard input: a cable cannot have hall-A at both ends\n"),
+        (IMPORTED, &["0", "1", "many"], "'many': expected a capacity in digits that is at most 4294967295\n"),
+        (
+            IMPORTED,
+            &["0", "1", "4294967296"],
+            "'4294967296': expected a capacity in digits that is at most 4294967295\n",
+        ),
+        (IMPORTED, &["0", "1", "1", " "], "expected a name of the cable\n"),
+        (&full, &["0", "1", "1"], "standard input: the network has 2048 links, and the monitor takes no more\n"),
+    ];
+    for (text, operands, message) in cases {
+        let arguments = [&["append", "-"], operands].concat();
+        assert_eq!(network(&arguments, text.as_bytes()), (Some(1), vec![], message.to_string()));
+    }
 }
 
 #[test]
