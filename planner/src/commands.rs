@@ -5,7 +5,7 @@ use planner::findings::{self, Findings};
 use planner::input::{Kind, Source};
 use planner::mistakes::{self, Mistake};
 use planner::text::{self, Parsed};
-use planner::{cables, edit, names, unit};
+use planner::{cables, edit, fit, names, unit};
 use reference::network::Link;
 use reference::sheet::{self, Place, Refusal, MOST_LINKS, MOST_WEIGHT};
 use std::ffi::{OsStr, OsString};
@@ -95,6 +95,30 @@ fn link_mistakes(parsed: &Parsed) -> Vec<(usize, Mistake)> {
         Place::Tree(_) | Place::End => false,
     };
     parsed.mistakes().into_iter().filter(|(_, mistake)| of_links(mistake)).collect()
+}
+
+pub fn fit(arguments: &Arguments) -> Done {
+    let source = arguments.source();
+    let (parsed, text) = source.text()?;
+    let (network, names) = (&parsed.contents.network, &parsed.names);
+    let mistakes = link_mistakes(&parsed);
+    if !mistakes.is_empty() {
+        return Ok(refused(&source, &mistakes));
+    }
+    match fit::fit(network.nodes, &network.links) {
+        Ok(trees) => {
+            print(edit::with_trees(&text, &parsed, &trees).as_bytes());
+            Ok(Outcome::Accepted)
+        }
+        Err(apart) => {
+            let (node, core) = (names.node(apart.node), names.node(0));
+            complain(&format!(
+                "{}: the network falls apart: no links join {node} to {core}, so no tree fits",
+                source.name()
+            ));
+            Ok(Outcome::Refused)
+        }
+    }
 }
 
 pub fn append(arguments: &Arguments) -> Done {

@@ -1,7 +1,7 @@
 //! Changes to a network's text that leave its other lines as they are.
 
-use crate::text::{link_line, Parsed};
-use reference::network::Link;
+use crate::text::{link_line, tree_line, Parsed};
+use reference::network::{Link, Tree};
 
 /// The text with a link behind its last one, so that the links of its trees keep their numbers. The new link has trunk number 0.
 pub fn with_link(text: &str, parsed: &Parsed, link: &Link, name: Option<&str>) -> String {
@@ -14,5 +14,13 @@ pub fn with_link(text: &str, parsed: &Parsed, link: &Link, name: Option<&str>) -
             edited.push_str(&new);
         }
     }
+    edited
+}
+
+/// The text with these trees in place of its own.
+pub fn with_trees(text: &str, parsed: &Parsed, trees: &[Tree]) -> String {
+    let kept = (1..).zip(text.lines()).filter(|(number, _)| !parsed.tree_lines().contains(number));
+    let mut edited: String = kept.map(|(_, line)| format!("{line}\n")).collect();
+    trees.iter().for_each(|tree| edited.push_str(&tree_line(tree)));
     edited
 }

@@ -1,9 +1,10 @@
-//! The planner's side of the monitor: networks as text and as cable lists, and what the unit's answers mean, in
+//! The planner's side of the monitor: networks as text and as cable lists, trees fitted to them, and what the unit's answers mean, in
 //! words and as JSON. The answers come from the proved code (`unit`); all else here is tested, not proved.
 
 pub mod cables;
 pub mod edit;
 pub mod findings;
+pub mod fit;
 pub mod input;
 pub mod json;
 mod levels;

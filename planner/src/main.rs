@@ -27,7 +27,7 @@ const JSON: Flag = Flag { name: "--json", value: None };
 const CORE: Flag = Flag { name: "--core", value: Some("SWITCH") };
 const PROGRAM: Flag = Flag { name: "--program", value: Some("PROGRAM") };
 
-const SUBCOMMANDS: [Subcommand; 7] = [
+const SUBCOMMANDS: [Subcommand; 8] = [
     Subcommand {
         name: "import",
         operands: "[CABLES]",
@@ -35,6 +35,14 @@ const SUBCOMMANDS: [Subcommand; 7] = [
         flags: &[CORE],
         about: "turns a cable list (CSV) into a network as text; the core switch is the first of the list or SWITCH",
         run: commands::import,
+    },
+    Subcommand {
+        name: "fit",
+        operands: "[FILE]",
+        count: 0..=1,
+        flags: &[],
+        about: "chooses trees and shares for a network, in place of those that it has",
+        run: commands::fit,
     },
     Subcommand {
         name: "report",

@@ -1,10 +1,11 @@
-//! From a cable list to a report, as a planner goes: `import`, `append` and `export`.
+//! From a cable list to a report, as a planner goes: `import`, `fit`, `append` and `export`.
 
 mod command;
 
-use command::network;
+use command::{example, network};
 use planner::text;
 use reference::network::Network;
+use reference::sheet;
 
 /// What the command prints, if it ends well and says nothing else.
 #[track_caller]
@@ -39,19 +40,56 @@ fn a_core_that_no_cable_ends_at_is_an_error() {
 }
 
 #[test]
-fn links_that_the_monitor_refuses_cannot_be_exported() {
+fn a_cable_list_of_60_switches_gets_trees_and_a_certified_report() {
+    let text = printed(&["import", &example("plant.csv")], "");
+    let fitted = printed(&["fit"], &text);
+    assert!(fitted.starts_with(&text));
+    let with_trees = read(&fitted);
+    assert_eq!((with_trees.nodes, &with_trees.links), (60, &read(&text).links));
+    assert_eq!(sheet::read(&sheet::write(&with_trees)).as_ref(), Ok(&with_trees));
+    let report = printed(&["report"], &fitted);
+    assert!(report.contains("\nanswer 2 1500 1500 "), "{report}");
+    assert!(report.contains("\nOne other cut of the whole network weighs 1500 too, and no more do.\n"), "{report}");
+    let exported = printed(&["export"], &fitted);
+    assert_eq!(exported, std::fs::read_to_string(example("plant.csv")).expect("the list"));
+}
+
+#[test]
+fn fitting_keeps_all_lines_but_the_trees() {
+    let text =
+        "# Works\nnodes 2 # two\n\nlink 0-1:4 trunk 5 name x # old\n# trees\ntree share 1 links 0 # by hand\n# end";
+    let expected = "# Works\nnodes 2 # two\n\nlink 0-1:4 trunk 5 name x # old\n# trees\n# end\ntree share 4 links 0\n";
+    assert_eq!(printed(&["fit"], text), expected);
+    assert_eq!(printed(&["fit"], expected), expected);
+}
+
+#[test]
+fn a_network_that_falls_apart_cannot_be_fitted() {
+    let cables = "from,to,capacity\ncore,a,1\nb,c,1\n";
+    let text = printed(&["import"], cables);
+    let message = "standard input: the network falls apart: no links join b to core, so no tree fits\n";
+    assert_eq!(network(&["fit"], text.as_bytes()), (Some(3), vec![], message.to_string()));
+    let alone = b"nodes 4\nlink 0-1:1\nlink 1-3:1\n";
+    let message = "standard input: the network falls apart: no links join node 2 to node 0, so no tree fits\n";
+    assert_eq!(network(&["fit"], alone), (Some(3), vec![], message.to_string()));
+}
+
+#[test]
+fn links_that_the_monitor_refuses_cannot_be_fitted() {
     let ends = b"nodes 2\nlink 0-1:1\nlink 1-1:1\n";
     let message = "standard input:3: the monitor refuses this network, number 10: link 1 has node 1 at both ends\n";
-    assert_eq!(network(&["export"], ends), (Some(3), vec![], message.to_string()));
+    for subcommand in ["fit", "export"] {
+        assert_eq!(network(&[subcommand], ends), (Some(3), vec![], message.to_string()));
+    }
     let nodes = b"nodes 257\nlink 0-1:1\n";
     let message = "standard input:1: the monitor refuses this network, number 4: the node count is 257, and the monitor takes 2 to \
                    256\n";
-    assert_eq!(network(&["export"], nodes), (Some(3), vec![], message.to_string()));
+    assert_eq!(network(&["fit"], nodes), (Some(3), vec![], message.to_string()));
 }
 
 #[test]
 fn an_appended_cable_leaves_the_trees_right() {
-    let text = format!("{IMPORTED}tree share 50 links 0 1\n");
+    let text = printed(&["fit"], IMPORTED);
     let longer = printed(&["append", "-", "hall B, north", "core", "70", "second wire"], &text);
     let line = "link 2-0:70 name second wire\n";
     assert_eq!(longer.replace(line, ""), text);

@@ -10,7 +10,7 @@ use std::process::{Command, Stdio};
 
 /// Document 01's case A.
 const TRIANGLE: &str = "# A triangle\nnodes 3\nlink 0-1:3\nlink 1-2:2\nlink 0-2:4\ntree share 2 links 0 2\n";
-const SUBCOMMANDS: [&str; 7] = ["import", "report", "list", "append", "export", "sheet", "text"];
+const SUBCOMMANDS: [&str; 8] = ["import", "fit", "report", "list", "append", "export", "sheet", "text"];
 
 /// A program that takes its standard input and prints the given lines, or ends with a status. A shell writes it, so that no
 /// process of this test has it open when it is run.
@@ -48,7 +48,7 @@ fn help_is_printed_with_status_0() {
 
 #[test]
 fn arguments_that_mean_nothing_are_errors() {
-    let bad: [&[&str]; 16] = [
+    let bad: [&[&str]; 17] = [
         &[],
         &["sheets"],
         &["-h"],
@@ -56,6 +56,7 @@ fn arguments_that_mean_nothing_are_errors() {
         &["sheet", "a.net", "b.net"],
         &["text", "a", "b"],
         &["list", "a.net", "b.net"],
+        &["fit", "--core", "x"],
         &["import", "--core"],
         &["import", "--core", "a", "--core", "b"],
         &["import", "--core=a", "x", "y"],
@@ -124,13 +125,15 @@ fn a_file_of_another_kind_is_recognised() {
     let export = "this is a network as text: `network export` turns it into a cable list\n";
     let utf_16 = "this is text in UTF-16: save it as UTF-8\n";
     let wide: Vec<u8> = [0xFF, 0xFE].into_iter().chain("nodes 3\n".bytes().flat_map(|byte| [byte, 0])).collect();
-    let cases: [(&str, &[u8], &str); 9] = [
+    let cases: [(&str, &[u8], &str); 11] = [
         ("text", TRIANGLE.as_bytes(), text),
         ("text", cables, list),
         ("sheet", &CASE_A, sheet),
         ("sheet", cables, list),
         ("report", &CASE_A, sheet),
         ("list", &CASE_A, sheet),
+        ("fit", &CASE_A, sheet),
+        ("fit", cables, list),
         ("import", &CASE_A, sheet),
         ("import", TRIANGLE.as_bytes(), export),
         ("sheet", &wide, utf_16),
@@ -270,7 +273,7 @@ fn another_refusal_than_the_networks_and_an_answer_are_an_error() {
 
 #[test]
 fn lost_output_is_an_error() {
-    for subcommand in ["sheet", "report", "list", "export", "--help"] {
+    for subcommand in ["sheet", "fit", "report", "list", "export", "--help"] {
         let mut unread = start(&[subcommand], Stdio::piped());
         drop(unread.stdout.take());
         assert_eq!(finish(unread, TRIANGLE.as_bytes()), (Some(1), vec![], String::new()), "{subcommand}");

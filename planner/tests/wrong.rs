@@ -100,7 +100,9 @@ fn lines_named(arguments: &[&str], input: &[u8]) -> Vec<usize> {
 fn more_than_60_wrong_inputs_have_their_line_named() {
     assert!(TEXTS.len() + LISTS.len() > 60);
     for (line, text) in TEXTS {
-        assert_eq!(lines_named(&["report"], text.as_bytes()).first(), Some(&line), "{text:?}");
+        for subcommand in ["report", "fit"] {
+            assert_eq!(lines_named(&[subcommand], text.as_bytes()).first(), Some(&line), "{text:?}");
+        }
     }
     for (line, list) in LISTS {
         assert_eq!(lines_named(&["import"], list.as_bytes()).first(), Some(&line), "{list:?}");
@@ -130,7 +132,7 @@ fn all_mistakes_of_a_file_are_said_in_one_run() {
 #[test]
 fn damaged_files_end_with_a_status_of_the_command() {
     let mut random = Random::new(4);
-    let subcommands = ["report", "list", "export", "sheet", "text", "import"];
+    let subcommands = ["report", "fit", "list", "export", "sheet", "text", "import"];
     let sound =
         "nodes 4\nnode 1 \"a #1\"\nlink 0-1:5 trunk 3 name b\nlink 1-2:6\nlink 2-3:7\ntree share 2 links 0 1 2\n";
     let list = "from,to,capacity,name\n\"a, b\",c,1,\"x\"\"y\"\nc,d,2,\n";
