@@ -4,6 +4,7 @@ use crate::arguments::Arguments;
 use planner::findings::{self, Findings};
 use planner::input::{Kind, Source};
 use planner::mistakes::{self, Mistake};
+use planner::picture::{self, Drawing};
 use planner::text::{self, Parsed};
 use planner::{cables, edit, fit, names, unit};
 use reference::network::Link;
@@ -233,5 +234,19 @@ pub fn list(arguments: &Arguments) -> Done {
     with_findings(arguments, |name, findings| match arguments.has("--json") {
         true => findings.list_record(name).for_each(|part| print(part.as_bytes())),
         false => findings.list_lines().for_each(|line| print(line.as_bytes())),
+    })
+}
+
+pub fn picture(arguments: &Arguments) -> Done {
+    draw(arguments, picture::svg)
+}
+
+pub fn dot(arguments: &Arguments) -> Done {
+    draw(arguments, picture::dot)
+}
+
+fn draw(arguments: &Arguments, write: fn(&Drawing) -> String) -> Done {
+    with_findings(arguments, |name, findings| {
+        print(write(&findings.drawing(name, arguments.has("--ties"))).as_bytes());
     })
 }

@@ -5,6 +5,7 @@ mod cable;
 mod cut;
 mod record;
 mod run;
+mod scene;
 mod sentences;
 #[cfg(test)]
 mod tests;

@@ -26,8 +26,9 @@ struct Subcommand {
 const JSON: Flag = Flag { name: "--json", value: None };
 const CORE: Flag = Flag { name: "--core", value: Some("SWITCH") };
 const PROGRAM: Flag = Flag { name: "--program", value: Some("PROGRAM") };
+const TIES: Flag = Flag { name: "--ties", value: None };
 
-const SUBCOMMANDS: [Subcommand; 8] = [
+const SUBCOMMANDS: [Subcommand; 10] = [
     Subcommand {
         name: "import",
         operands: "[CABLES]",
@@ -60,6 +61,22 @@ const SUBCOMMANDS: [Subcommand; 8] = [
         flags: &[JSON],
         about: "lists every cut as light as the reported one, smallest side first",
         run: commands::list,
+    },
+    Subcommand {
+        name: "picture",
+        operands: "[FILE]",
+        count: 0..=1,
+        flags: &[TIES],
+        about: "draws the network with its weakest cut, as SVG; with --ties also all other cuts as light",
+        run: commands::picture,
+    },
+    Subcommand {
+        name: "dot",
+        operands: "[FILE]",
+        count: 0..=1,
+        flags: &[TIES],
+        about: "writes the same picture for Graphviz",
+        run: commands::dot,
     },
     Subcommand {
         name: "append",

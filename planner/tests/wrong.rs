@@ -132,7 +132,7 @@ fn all_mistakes_of_a_file_are_said_in_one_run() {
 #[test]
 fn damaged_files_end_with_a_status_of_the_command() {
     let mut random = Random::new(4);
-    let subcommands = ["report", "fit", "list", "export", "sheet", "text", "import"];
+    let subcommands = ["report", "fit", "list", "picture", "dot", "export", "sheet", "text", "import"];
     let sound =
         "nodes 4\nnode 1 \"a #1\"\nlink 0-1:5 trunk 3 name b\nlink 1-2:6\nlink 2-3:7\ntree share 2 links 0 1 2\n";
     let list = "from,to,capacity,name\n\"a, b\",c,1,\"x\"\"y\"\nc,d,2,\n";

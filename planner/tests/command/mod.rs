@@ -1,4 +1,5 @@
 //! Runs the command `network`, in the folder that cargo has for tests.
+#![allow(dead_code)] // no test uses all of it
 
 use std::io::Write;
 use std::path::Path;
@@ -29,7 +30,6 @@ pub fn network(arguments: &[&str], input: &[u8]) -> (Option<i32>, Vec<u8>, Strin
 }
 
 /// The path of a file in `examples/`.
-#[allow(dead_code)] // not every test reads an example
 pub fn example(name: &str) -> String {
     Path::new(env!("CARGO_MANIFEST_DIR")).join("../examples").join(name).to_string_lossy().into_owned()
 }

@@ -1,0 +1,26 @@
+//! Output that cannot be written. The one test here has a process of its own: a pipe that it closes would stay open in a command that
+//! another test starts at the same moment.
+
+mod command;
+
+use command::{finish, start};
+use std::fs::File;
+use std::process::Stdio;
+
+const TEXT: &[u8] = b"nodes 3\nlink 0-1:3\nlink 1-2:2\nlink 0-2:4\ntree share 2 links 0 2\n";
+
+#[test]
+fn lost_output_is_an_error() {
+    for subcommand in ["sheet", "fit", "report", "list", "picture", "dot", "export"] {
+        // the command reads its input, which comes when the pipe is closed, before it prints
+        let mut unread = start(&[subcommand], Stdio::piped());
+        drop(unread.stdout.take());
+        assert_eq!(finish(unread, TEXT), (Some(1), vec![], String::new()), "{subcommand}");
+    }
+    for subcommand in ["sheet", "fit", "report", "list", "picture", "dot", "export", "--help"] {
+        let full = File::create("/dev/full").expect("a file that cannot be written");
+        let (status, _, errors) = finish(start(&[subcommand], full.into()), TEXT);
+        assert_eq!((status, errors.lines().count()), (Some(1), 1), "{errors}");
+        assert!(errors.starts_with("standard output: "), "{errors}");
+    }
+}
