@@ -1,5 +1,5 @@
-# make demo                  the reports of the networks in examples/, what they mean, and the lists of two of them
-# make demo NET=file         the report of a network of yours, as text
+# make demo                  the reports of the networks in examples/, what they mean, lists, and the way from a cable list to a picture
+# make demo NET=file         the report of a network of yours, as text or as a cable list (NAME.csv)
 # make test                  prove and test everything; the last line is `N passed, 0 failed`
 # make soak [N=100000]       compare so many random cases with the reference; SEED=.. repeats a run
 # make bench                 the entry's time against its search alone and against the plain method, as ratios with limits
