@@ -16,12 +16,16 @@ impl Names {
         Names { nodes: vec![None; nodes], links: vec![None; links] }
     }
 
+    /// Whether the name of some node is a number.
+    pub fn have_numbers(&self) -> bool {
+        self.nodes.iter().flatten().any(|name| is_number(name))
+    }
+
     /// The node that is meant by a name or, where no name is a number, by its number.
     pub fn find_node(&self, word: &str) -> Option<usize> {
         let named = self.nodes.iter().position(|name| name.as_deref() == Some(word));
-        let numbers_are_names = self.nodes.iter().flatten().any(|name| is_number(name));
         let numbered = || word.parse().ok().filter(|&node| is_number(word) && node < self.nodes.len());
-        named.or_else(|| if numbers_are_names { None } else { numbered() })
+        named.or_else(|| if self.have_numbers() { None } else { numbered() })
     }
 
     /// `hall-B`, `node 3`.

@@ -44,7 +44,6 @@ impl Findings<'_> {
 
     /// What stands above the picture.
     fn caption(&self, ties: bool) -> Vec<String> {
-        let [_, others, _] = self.sentences();
         let (severed, nodes) = (self.answer.side.len(), self.network().nodes);
         let cut = format!(
             "The reported cut weighs {} and severs {severed} of {nodes} nodes from {}. {}",
@@ -53,7 +52,7 @@ impl Findings<'_> {
             self.promise(),
         );
         match ties {
-            true => vec![cut, others],
+            true => vec![cut, self.others_as_light()],
             false => vec![cut],
         }
     }

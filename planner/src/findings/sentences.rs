@@ -9,9 +9,16 @@ use reference::cuts::{self, Candidate};
 use reference::list;
 
 impl Findings<'_> {
-    /// What the report means: the cut, the others as light, and where a new cable has to run.
-    pub fn sentences(&self) -> [String; 3] {
-        [self.cut(), self.others_as_light(), self.new_cable()]
+    /// What the report means: the cut, the others as light, and where a new cable has to run. Where names are numbers, also that the
+    /// report's lines do not mean these.
+    pub fn sentences(&self) -> Vec<String> {
+        let mut sentences = vec![self.cut(), self.others_as_light(), self.new_cable()];
+        if self.names().have_numbers() {
+            let warning =
+                "Some names are numbers: they stand in quotes here, and the lines above have the nodes' own numbers.";
+            sentences.push(warning.to_string());
+        }
+        sentences
     }
 
     /// The lines of the list, each with its line feed: how many cuts there are and what they weigh, what is known of others, then for
@@ -91,7 +98,7 @@ impl Findings<'_> {
     }
 
     /// How many other cuts are as light, and whether these are all.
-    fn others_as_light(&self) -> String {
+    pub(super) fn others_as_light(&self) -> String {
         let (weight, bound) = (self.weight(), self.three_shares);
         let too = match self.others() {
             1 => format!("weighs {weight} too"),

@@ -83,6 +83,16 @@ fn one_cable_may_cross_all_cuts() {
     );
 }
 
+/// Node 1 is named 2: the report's second line has `side 1`.
+#[test]
+fn numbers_as_names_are_told_from_the_nodes_numbers() {
+    let parsed = parse("nodes 2\nnode 0 1\nnode 1 2\nlink 0-1:4\ntree share 4 links 0");
+    let sentences = reference_findings(&parsed).sentences();
+    assert!(sentences[0].starts_with("The cut severs \"2\" from \"1\". It crosses link 0 (\"1\" to \"2\":4), "));
+    let warning = "Some names are numbers: they stand in quotes here, and the lines above have the nodes' own numbers.";
+    assert_eq!(sentences[3..], [warning]);
+}
+
 #[test]
 fn names_stand_in_for_numbers() {
     assert_sentences(
@@ -303,7 +313,7 @@ fn a_sentence_names_the_nodes_and_links_of_the_cut_and_no_others() {
             let network = generate::network(&mut random, size, feature);
             let parsed = if round < 10 { parsed(network.clone()) } else { named(&mut random, &network) };
             let answer = cuts::answer(&network);
-            let [sentence, ..] = reference_findings(&parsed).sentences();
+            let sentence = reference_findings(&parsed).sentences().swap_remove(0);
             let nodes = numbers_between(&sentence, "The cut severs ", " from ");
             assert!(nodes.iter().map(|&node| node as usize).eq(answer.side.iter().copied()), "{sentence}");
             let mut ends_met = vec![0; network.links.len()];
@@ -343,7 +353,7 @@ fn what_is_said_of_other_cuts_and_new_cables_holds_for_every_side() {
                 every_side::check_list(&network, &sides).expect("a promise kept");
             let parsed = parsed(network.clone());
             let findings = reference_findings(&parsed);
-            let [_, others, cable] = findings.sentences();
+            let [_, others, cable] = &findings.sentences()[..] else { panic!("three sentences") };
             let head = findings.list_lines().next().unwrap_or_default();
             let cases = [
                 (head.contains(" The list is complete: "), shares.is_gt() && missing == 0 && lighter == 0),
@@ -411,7 +421,8 @@ fn records_have_the_fields_of_the_report() {
     let findings = reference_findings(&parsed);
     let node = [r#"{"node": 0, "name": null}"#, r#"{"node": 1, "name": "hall"}"#];
     let link = format!(r#"{{"link": 0, "name": "wire", "first": {}, "second": {}, "weight": 5}}"#, node[0], node[1]);
-    let sentences = findings.sentences().map(|sentence| format!("{sentence:?}")).join(", ");
+    let sentences: Vec<String> = findings.sentences().iter().map(|sentence| format!("{sentence:?}")).collect();
+    let sentences = sentences.join(", ");
     let expected = format!(
         r#"{{"file": "two.net", "title": "Two", "verdict": 1, "weight": 5, "floor": 3, "tree": 0, "first_link": 0, "second_link": null, "none_lighter": false, "severed": [{1}], "others": [{0}], "crossing": [{link}], "other_cuts_as_light": 0, "list_complete": false, "one_cable_crosses_all": [{{"from": [{0}], "to": [{1}]}}], "sentences": [{sentences}]}}"#,
         node[0], node[1]
