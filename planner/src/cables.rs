@@ -95,14 +95,18 @@ fn read_cable(line: usize, columns: &[usize], fields: &[String]) -> Result<Cable
     if from == to {
         return Err(fault(format!("expected two different switches, found '{}' at both ends", shortened(&from))));
     }
-    let capacity = Some(field(2)).filter(|digits| names::is_number(digits)).and_then(|digits| digits.parse().ok());
-    let Some(capacity) = capacity.filter(|&capacity| capacity <= MOST_WEIGHT) else {
-        let found = shortened(field(2));
-        return Err(fault(format!("expected a capacity in digits that is at most {MOST_WEIGHT}, found '{found}'")));
-    };
+    let capacity = capacity(field(2)).map_err(fault)?;
     let name = Some(field(3)).filter(|name| !name.is_empty()).map(names::tidy).transpose();
     let name = name.map_err(|expected| fault(format!("expected {expected} in the column 'name'")))?;
     Ok(Cable { from, to, capacity, name })
+}
+
+/// A capacity in digits; the error says what was expected.
+pub fn capacity(field: &str) -> Result<u64, String> {
+    let capacity = Some(field).filter(|digits| names::is_number(digits)).and_then(|digits| digits.parse().ok());
+    capacity.filter(|&capacity| capacity <= MOST_WEIGHT).ok_or_else(|| {
+        format!("expected a capacity in digits that is at most {MOST_WEIGHT}, found '{}'", shortened(field))
+    })
 }
 
 /// The cables read so far, and the faults. Where there are more cables or switches than the monitor takes, that is said once.

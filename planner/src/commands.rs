@@ -8,7 +8,7 @@ use planner::picture::{self, Drawing};
 use planner::text::{self, Parsed};
 use planner::{cables, edit, fit, names, unit};
 use reference::network::Link;
-use reference::sheet::{self, Place, Refusal, MOST_LINKS, MOST_WEIGHT};
+use reference::sheet::{self, Place, Refusal, MOST_LINKS};
 use std::ffi::{OsStr, OsString};
 use std::io::{self, ErrorKind, Write};
 use std::process;
@@ -67,7 +67,9 @@ pub fn import(arguments: &Arguments) -> Done {
     let source = arguments.source();
     let cables = source.cables()?;
     let core = arguments.value("--core").map(argument).transpose()?;
-    let (contents, names) = cables::network(&cables, core)
+    let core =
+        core.map(|core| names::tidy(core).map_err(|expected| format!("--core: expected {expected}"))).transpose()?;
+    let (contents, names) = cables::network(&cables, core.as_deref())
         .ok_or_else(|| format!("{}: no cable ends at the core switch '{}'", source.name(), core.unwrap_or_default()))?;
     print(text::write(&contents, &names).as_bytes());
     Ok(Outcome::Accepted)
@@ -135,11 +137,7 @@ pub fn append(arguments: &Arguments) -> Done {
     if first == second {
         return Err(format!("{}: a cable cannot have {} at both ends", source.name(), parsed.names.node(first)));
     }
-    let weight = Some(operands[2]).filter(|digits| names::is_number(digits)).and_then(|digits| digits.parse().ok());
-    let Some(weight) = weight.filter(|&weight| weight <= MOST_WEIGHT) else {
-        let found = text::shortened(operands[2]);
-        return Err(format!("'{found}': expected a capacity in digits that is at most {MOST_WEIGHT}"));
-    };
+    let weight = cables::capacity(operands[2])?;
     if parsed.contents.network.links.len() == MOST_LINKS {
         return Err(format!("{}: the network has {MOST_LINKS} links, and the monitor takes no more", source.name()));
     }

@@ -27,7 +27,7 @@ const IMPORTED: &str = "nodes 3\nnode 0 core\nnode 1 hall-A\nnode 2 hall B, nort
 #[test]
 fn a_cable_list_becomes_a_text_and_a_cable_list_again() {
     assert_eq!(printed(&["import", "--core", "core"], CABLES), IMPORTED);
-    assert_eq!(printed(&["import", "--core=core", "-"], CABLES), IMPORTED);
+    assert_eq!(printed(&["import", "--core= core ", "-"], CABLES), IMPORTED);
     assert_eq!(printed(&["export"], IMPORTED), CABLES);
     let first = printed(&["import"], CABLES);
     assert!(first.starts_with("nodes 3\nnode 0 hall-A\nnode 1 core\n"), "{first}");
@@ -109,11 +109,11 @@ fn a_cable_that_cannot_be_appended_is_an_error() {
         (IMPORTED, &["hall-C", "core", "1"], "standard input: there is no node 'hall-C'\n"),
         (IMPORTED, &["hall-A", "3", "1"], "standard input: there is no node '3'\n"),
         (IMPORTED, &["hall-A", "1", "1"], "standard input: a cable cannot have hall-A at both ends\n"),
-        (IMPORTED, &["0", "1", "many"], "'many': expected a capacity in digits that is at most 4294967295\n"),
+        (IMPORTED, &["0", "1", "many"], "expected a capacity in digits that is at most 4294967295, found 'many'\n"),
         (
             IMPORTED,
             &["0", "1", "4294967296"],
-            "'4294967296': expected a capacity in digits that is at most 4294967295\n",
+            "expected a capacity in digits that is at most 4294967295, found '4294967296'\n",
         ),
         (IMPORTED, &["0", "1", "1", " "], "expected a name of the cable\n"),
         (&full, &["0", "1", "1"], "standard input: the network has 2048 links, and the monitor takes no more\n"),

@@ -35,8 +35,12 @@ impl<'a> Line<'a> {
     }
 
     /// The fault of this line: what it holds, and what was expected.
+    pub fn as_fault(&self, expected: &str) -> Fault {
+        Fault { line: self.number, message: format!("{}: {expected}", shortened(self.text)) }
+    }
+
     pub fn fault<T>(&self, expected: &str) -> Result<T, Fault> {
-        Err(Fault { line: self.number, message: format!("{}: {expected}", shortened(self.text)) })
+        Err(self.as_fault(expected))
     }
 
     /// The fault at the first part that is not read.

@@ -20,6 +20,7 @@ const MOST_TREE_LINES: usize = u8::MAX as usize;
 const UNREAD_LINK: Link = Link { first: 0, second: 0, weight: 0 };
 
 /// What was read so far, and the faults of it. A record with a fault keeps its place, so that those behind it keep their numbers.
+#[derive(Default)]
 pub struct Reader {
     title: Option<String>,
     /// None before the line with the node count, and where that has a fault.
@@ -39,19 +40,7 @@ pub struct Reader {
 
 impl Reader {
     pub fn new(title: Option<String>) -> Reader {
-        Reader {
-            title,
-            nodes: None,
-            names: vec![],
-            links: vec![],
-            link_names: vec![],
-            trunks: vec![],
-            trees: vec![],
-            lines: Lines::default(),
-            count_missed: false,
-            line_left_out: false,
-            faults: vec![],
-        }
+        Reader { title, ..Reader::default() }
     }
 
     pub fn read(&mut self, number: usize, line: &str) {
@@ -75,9 +64,8 @@ impl Reader {
         }
         if word != "nodes" && self.lines.nodes == 0 && !self.count_missed {
             self.count_missed = true;
-            let missed: Result<(), Fault> =
-                line.fault("expected 'nodes' and the node count before the first name, link and tree");
-            self.faults.extend(missed.err());
+            let expected = "expected 'nodes' and the node count before the first name, link and tree";
+            self.faults.push(line.as_fault(expected));
         }
         match word {
             "nodes" => self.read_nodes(line),
@@ -190,18 +178,18 @@ impl Reader {
         let before = self.faults.len();
         while !line.ended() {
             let member = line.expect_number("a link number", LINK)?;
-            let fault: Result<(), Fault> = match held.get_mut(member as usize) {
+            let expected = match held.get_mut(member as usize) {
                 Some(held) if !*held => {
                     *held = true;
                     continue;
                 }
-                Some(_) => line.fault(&format!("expected each link once, found link {member} twice")),
-                None if links == 0 => line
-                    .fault(&format!("expected the number of a link of this file, found {member}, and it has no link")),
-                None => line
-                    .fault(&format!("expected the number of a link of this file, 0 to {}, found {member}", links - 1)),
+                Some(_) => format!("expected each link once, found link {member} twice"),
+                None if links == 0 => {
+                    format!("expected the number of a link of this file, found {member}, and it has no link")
+                }
+                None => format!("expected the number of a link of this file, 0 to {}, found {member}", links - 1),
             };
-            self.faults.extend(fault.err());
+            self.faults.push(line.as_fault(&expected));
         }
         let members = (0..links).filter(|&link| held[link]).collect();
         Ok((self.faults.len() == before).then_some(members))
