@@ -2,6 +2,8 @@
 
 /// What may stand around a name in a sentence, and so sets a name that holds it in quotes.
 const PUNCTUATION: [char; 6] = [',', ';', ':', '(', ')', '"'];
+const BETWEEN_NAMES: [&str; 2] = [" and ", " to "];
+const BEFORE_NUMBERS: [&str; 2] = ["node ", "nodes "];
 
 /// The names of a network's nodes and links, for those that have one. No two nodes have the same.
 #[derive(Clone, Debug, PartialEq, Eq)]
@@ -82,7 +84,9 @@ pub fn written(name: &str) -> String {
 
 /// A name as a sentence has it: in quotes where it could be taken for something else.
 fn shown(name: &str) -> String {
-    match name.contains(PUNCTUATION) || is_number(name) || name.starts_with("node ") || name.contains(" and ") {
+    let like_words = BETWEEN_NAMES.iter().any(|word| name.contains(word));
+    let like_numbers = is_number(name) || BEFORE_NUMBERS.iter().any(|word| name.starts_with(word));
+    match name.contains(PUNCTUATION) || like_words || like_numbers {
         true => quoted(name),
         false => name.to_string(),
     }
@@ -137,7 +141,7 @@ mod tests {
     fn a_name_that_could_mislead_is_quoted() {
         let plain = ["hall-B", "Hall B/2", "Kühlhaus #3", "nodes", "17a"];
         plain.iter().for_each(|name| assert_eq!(shown(name), *name));
-        let misleading = ["17", "node 5", "B, north", "B (old)", "up and down", "a:1"];
+        let misleading = ["17", "node 5", "nodes 1", "B, north", "B (old)", "up and down", "A to B", "a:1"];
         misleading.iter().for_each(|name| assert_eq!(shown(name), format!("\"{name}\"")));
         assert_eq!(shown("the \"old\" hall"), "\"the \"\"old\"\" hall\"");
     }
