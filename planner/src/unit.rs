@@ -43,7 +43,19 @@ fn read_areas(side: &Side, area: &[u8; REPORT_BYTES]) -> Answer {
 
 /// The sides that the entry of the list writes, into an area that has room for all that the network can have.
 pub fn list(sheet: &[u8], network: &Network) -> Said<Vec<Side>> {
-    entry::list(sheet, network.trees.len() * network.nodes * (network.nodes - 1) / 2)
+    let most_sides = network.trees.len() * network.nodes * (network.nodes - 1) / 2;
+    let mut sides: Vec<Side> = vec![[0; SIDE_BYTES]; most_sides];
+    let mut count = 0;
+    let area = sides.as_flattened_mut();
+    // SAFETY: each pointer is that of a slice with the length behind it or of a number, and none of the three overlaps another.
+    let number = unsafe {
+        entry::wcut_list(sheet.as_ptr(), sheet.len(), area.as_mut_ptr(), area.len(), std::ptr::from_mut(&mut count))
+    };
+    sides.truncate(count as usize);
+    match number {
+        0 => Ok(sides),
+        refusal => Err(refusal),
+    }
 }
 
 /// What the report program prints for a sheet; the error says why that is no report.
