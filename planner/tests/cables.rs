@@ -2,18 +2,10 @@
 
 mod command;
 
-use command::{example, network};
+use command::{example, network, printed};
 use planner::text;
 use reference::network::Network;
 use reference::sheet;
-
-/// What the command prints, if it ends well and says nothing else.
-#[track_caller]
-fn printed(arguments: &[&str], input: &str) -> String {
-    let (status, printed, errors) = network(arguments, input.as_bytes());
-    assert_eq!((status, errors.as_str()), (Some(0), ""), "{arguments:?}");
-    String::from_utf8(printed).expect("text")
-}
 
 fn read(text: &str) -> Network {
     text::parse(text.as_bytes()).expect("a network").contents.network

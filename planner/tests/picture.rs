@@ -3,20 +3,13 @@
 mod command;
 mod xml;
 
-use command::{example, network};
+use command::{example, printed};
 use planner::text;
 use reference::network::Network;
 use reference::{list, report};
 use xml::{parse, Element};
 
 const PICTURE_OF_THE_WORKS: &str = include_str!("../../docs/works.svg");
-
-#[track_caller]
-fn printed(arguments: &[&str], input: &str) -> String {
-    let (status, printed, errors) = network(arguments, input.as_bytes());
-    assert_eq!((status, errors.as_str()), (Some(0), ""), "{arguments:?}");
-    String::from_utf8(printed).expect("text")
-}
 
 /// The network of each example that the monitor accepts, with its text.
 fn examples() -> Vec<(String, Network)> {

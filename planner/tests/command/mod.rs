@@ -29,6 +29,14 @@ pub fn network(arguments: &[&str], input: &[u8]) -> (Option<i32>, Vec<u8>, Strin
     finish(start(arguments, Stdio::piped()), input)
 }
 
+/// What the command prints, if it ends well and says nothing else.
+#[track_caller]
+pub fn printed(arguments: &[&str], input: &str) -> String {
+    let (status, printed, errors) = network(arguments, input.as_bytes());
+    assert_eq!((status, errors.as_str()), (Some(0), ""), "{arguments:?}");
+    String::from_utf8(printed).expect("text")
+}
+
 /// The path of a file in `examples/`.
 pub fn example(name: &str) -> String {
     Path::new(env!("CARGO_MANIFEST_DIR")).join("../examples").join(name).to_string_lossy().into_owned()
