@@ -63,6 +63,7 @@ fn argument(given: &OsStr) -> Result<&str, String> {
     given.to_str().ok_or_else(|| format!("'{}': expected text in UTF-8", given.to_string_lossy()))
 }
 
+/// Writes the text of a cable list, which has the list's file as its title.
 pub fn import(arguments: &Arguments) -> Done {
     let source = arguments.source();
     let cables = source.cables()?;
@@ -71,7 +72,8 @@ pub fn import(arguments: &Arguments) -> Done {
         core.map(|core| names::tidy(core).map_err(|expected| format!("--core: expected {expected}"))).transpose()?;
     let (contents, names) = cables::network(&cables, core.as_deref())
         .ok_or_else(|| format!("{}: no cable ends at the core switch '{}'", source.name(), core.unwrap_or_default()))?;
-    print(text::write(&contents, &names).as_bytes());
+    let title = source.file().map_or(String::new(), |file| format!("# {file}\n"));
+    print((title + &text::write(&contents, &names)).as_bytes());
     Ok(Outcome::Accepted)
 }
 

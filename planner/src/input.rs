@@ -58,11 +58,13 @@ impl Source {
         self.0 == "-"
     }
 
+    /// The file's name; none of standard input.
+    pub fn file(&self) -> Option<String> {
+        (!self.is_input()).then(|| text::printable(&self.0.to_string_lossy()))
+    }
+
     pub fn name(&self) -> String {
-        match self.is_input() {
-            true => "standard input".to_string(),
-            false => text::printable(&self.0.to_string_lossy()),
-        }
+        self.file().unwrap_or("standard input".to_string())
     }
 
     /// The bytes, if they may be of that kind. The error names the source.

@@ -34,6 +34,7 @@ fn a_core_that_no_cable_ends_at_is_an_error() {
 #[test]
 fn a_cable_list_of_60_switches_gets_trees_and_a_certified_report() {
     let text = printed(&["import", &example("plant.csv")], "");
+    assert_eq!(text.lines().next(), Some(&*format!("# {}", example("plant.csv"))));
     let fitted = printed(&["fit"], &text);
     assert!(fitted.starts_with(&text));
     let with_trees = read(&fitted);
