@@ -90,6 +90,8 @@ fn an_appended_cable_leaves_the_trees_right() {
     assert_eq!(before.as_deref(), Some("link 1-2:50 name radio"));
     assert_eq!(read(&longer).trees, read(&text).trees);
     assert!(printed(&["report"], &longer).contains("It crosses links 1 (core to \"hall B, north\":100), 2 radio ("));
+    let bare = "# two\nnodes 2\n# none\n";
+    assert_eq!(printed(&["append", "-", "0", "1", "5"], bare), "# two\nnodes 2\nlink 0-1:5\n# none\n");
     let trunks = "nodes 2\nlink 0-1:1 trunk 7\ntree share 1 links 0\n";
     let expected = "nodes 2\nlink 0-1:1 trunk 7\nlink 1-0:5 trunk 0\ntree share 1 links 0\n";
     assert_eq!(printed(&["append", "-", "1", "0", "5"], trunks), expected);

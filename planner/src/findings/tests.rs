@@ -415,6 +415,23 @@ fn groups_cross_every_side_of_a_list() {
     assert_eq!(crossing_all(81, &bytes(&many)), [groups(&[0, 80], &[1])]);
 }
 
+/// Node 1 behind two links of weight 3: three times the share is 9, 6 and 3.
+#[test]
+fn records_say_what_is_certain() {
+    let certain = |share: u64| {
+        let parsed = parse(&format!("nodes 2\nlink 0-1:3\nlink 0-1:3\ntree share {share} links 0"));
+        let findings = reference_findings(&parsed);
+        let records = [findings.report_record("-").to_string(), findings.list_record("-").collect()];
+        let both = |field: &str| {
+            let held = records.each_ref().map(|record| record.contains(&format!("\"{field}\": true")));
+            assert_eq!(held[0], held[1], "{field}: {records:?}");
+            held[0]
+        };
+        (both("none_lighter"), both("list_complete"))
+    };
+    assert_eq!([3, 2, 1].map(certain), [(true, true), (true, false), (false, false)]);
+}
+
 #[test]
 fn records_have_the_fields_of_the_report() {
     let parsed = parse("# Two\nnodes 2\nnode 1 hall\nlink 0-1:5 name wire\ntree share 1 links 0");

@@ -213,9 +213,9 @@ fn a_refusal_names_the_line_and_the_numbers() {
     let refusals = [
         ("\nnodes 1\n".to_string(), 2, 4, "the node count is 1, and the monitor takes 2 to 256"),
         ("nodes 257\nlink 0-1:1\n".to_string(), 1, 4, "the node count is 257, and the monitor takes 2 to 256"),
-        (links(2049), 2051, 5, "the link count is 2049, and the monitor takes at most 2048"),
+        (links(2050), 2051, 5, "the link count is 2050, and the monitor takes at most 2048"),
         (trees(0), 2, 6, "there is no tree, and the monitor needs one: `network fit` chooses trees"),
-        (trees(33), 36, 6, "the tree count is 33, and the monitor takes at most 32"),
+        (trees(34), 36, 6, "the tree count is 34, and the monitor takes at most 32"),
         (path("tree share 1 links 1"), 7, 14, "tree 0 names 1 of the links, and a tree of 3 nodes has 2"),
         (path("tree share 1 links 0 2"), 7, 15, "the links of tree 0 do not join hall to node 0"),
     ];
