@@ -42,7 +42,11 @@ pub fn read(file: &[u8]) -> Result<Vec<Cable>, Vec<Fault>> {
     let columns = read_header(&mut records).map_err(|fault| vec![fault])?;
     let mut reader = Reader::default();
     for (line, record) in &mut records {
-        let cable = record.and_then(|fields| read_cable(line, &columns, &fields));
+        let cable = match record {
+            Ok(fields) => read_cable(&columns, &fields)
+                .map_err(|wrong| wrong.into_iter().map(|message| Fault { line, message }).collect()),
+            Err(fault) => Err(vec![fault]),
+        };
         reader.add(line, cable);
     }
     if reader.lines == 0 {
@@ -77,28 +81,36 @@ fn read_header(records: &mut Records) -> Result<Vec<usize>, Fault> {
     }
 }
 
-fn read_cable(line: usize, columns: &[usize], fields: &[String]) -> Result<Cable, Fault> {
-    let fault = |message: String| Fault { line, message };
+/// The cable of a line, or what is wrong with each of its fields.
+fn read_cable(columns: &[usize], fields: &[String]) -> Result<Cable, Vec<String>> {
     if fields.len() > columns.len() {
-        let message = format!("expected {} fields as in the header line, found {}", columns.len(), fields.len());
-        return Err(fault(message));
+        let (expected, found) = (columns.len(), fields.len());
+        return Err(vec![format!("expected {expected} fields as in the header line, found {found}")]);
     }
     let field = |wanted: usize| {
         let place = columns.iter().position(|&column| column == wanted);
         place.and_then(|place| fields.get(place)).map_or("", |field| field.trim())
     };
     let switch = |column: usize| {
-        let expected = |expected| fault(format!("expected {expected} of a switch in the column '{}'", COLUMNS[column]));
+        let expected = |expected| format!("expected {expected} of a switch in the column '{}'", COLUMNS[column]);
         names::tidy(field(column)).map_err(expected)
     };
-    let (from, to) = (switch(0)?, switch(1)?);
-    if from == to {
-        return Err(fault(format!("expected two different switches, found '{}' at both ends", shortened(&from))));
-    }
-    let capacity = capacity(field(2)).map_err(fault)?;
+    let ends = [switch(0), switch(1)];
+    let same = match &ends {
+        [Ok(from), Ok(to)] if from == to => {
+            Err(format!("expected two different switches, found '{}' at both ends", shortened(from)))
+        }
+        _ => Ok(()),
+    };
     let name = Some(field(3)).filter(|name| !name.is_empty()).map(names::tidy).transpose();
-    let name = name.map_err(|expected| fault(format!("expected {expected} in the column 'name'")))?;
-    Ok(Cable { from, to, capacity, name })
+    let name = name.map_err(|expected| format!("expected {expected} in the column 'name'"));
+    match (ends, same, capacity(field(2)), name) {
+        ([Ok(from), Ok(to)], Ok(()), Ok(capacity), Ok(name)) => Ok(Cable { from, to, capacity, name }),
+        ([from, to], same, capacity, name) => {
+            let wrong = [from.err(), to.err(), same.err(), capacity.err(), name.err()];
+            Err(wrong.into_iter().flatten().collect())
+        }
+    }
 }
 
 /// A capacity in digits; the error says what was expected.
@@ -119,7 +131,7 @@ struct Reader {
 }
 
 impl Reader {
-    fn add(&mut self, line: usize, cable: Result<Cable, Fault>) {
+    fn add(&mut self, line: usize, cable: Result<Cable, Vec<Fault>>) {
         self.lines += 1;
         if self.lines == MOST_LINKS + 1 {
             let message = format!("expected at most {MOST_LINKS} cables, which the monitor takes, found one more");
@@ -127,7 +139,7 @@ impl Reader {
         }
         let cable = match cable {
             Ok(cable) => cable,
-            Err(fault) => return self.faults.push(fault),
+            Err(faults) => return self.faults.extend(faults),
         };
         let before = self.switches.len();
         self.switches.extend([cable.from.clone(), cable.to.clone()]);

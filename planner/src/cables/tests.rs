@@ -44,6 +44,16 @@ fn all_faults_of_a_list_are_named_by_their_lines() {
             (16, "expected a closing quote for the one that opens here"),
         ],
     );
+    assert_faults(
+        "from,to,capacity,name\na,a,x,\u{7}\n,b\u{7},1,\n",
+        &[
+            (2, "expected two different switches, found 'a' at both ends"),
+            (2, "expected a capacity in digits that is at most 4294967295, found 'x'"),
+            (2, "expected a name without control characters in the column 'name'"),
+            (3, "expected a name of a switch in the column 'from'"),
+            (3, "expected a name without control characters of a switch in the column 'to'"),
+        ],
+    );
     assert_faults(b"from,to,capacity\na,K\xfchlhaus,1\n", &[(2, "expected text in UTF-8, found a byte that is none")]);
     let control = "expected a name without control characters of a switch in the column 'to'";
     assert_faults("from,to,capacity\na,b\u{1b}[2J,1\n", &[(2, control)]);
