@@ -8,7 +8,7 @@ use planner::picture::{self, Drawing};
 use planner::text::{self, Parsed};
 use planner::{cables, edit, fit, names, unit};
 use reference::network::Link;
-use reference::sheet::{self, Place, Refusal, MOST_LINKS};
+use reference::sheet::{self, Refusal, MOST_LINKS};
 use std::ffi::{OsStr, OsString};
 use std::io::{self, ErrorKind, Write};
 use std::process;
@@ -79,7 +79,7 @@ pub fn import(arguments: &Arguments) -> Done {
 
 pub fn export(arguments: &Arguments) -> Done {
     let source = arguments.source();
-    let (parsed, _) = source.text()?;
+    let (parsed, _) = source.text_without_trees()?;
     let mistakes = link_mistakes(&parsed);
     if !mistakes.is_empty() {
         return Ok(refused(&source, &mistakes));
@@ -91,20 +91,17 @@ pub fn export(arguments: &Arguments) -> Done {
     Ok(Outcome::Accepted)
 }
 
-/// What the monitor refuses of a text beside its trees.
+/// What the monitor refuses of a text that was read without trees, whichever trees it gets. Where it has too few links, it falls apart,
+/// which is said otherwise.
 fn link_mistakes(parsed: &Parsed) -> Vec<(usize, Mistake)> {
     let few_links = parsed.contents.network.links.len() <= MOST_LINKS;
-    let of_links = |mistake: &Mistake| match mistake.place {
-        Place::Header => mistake.number == mistakes::NODE_COUNT || mistake.number == mistakes::LINK_COUNT && !few_links,
-        Place::Link(_) => true,
-        Place::Tree(_) | Place::End => false,
-    };
-    parsed.mistakes().into_iter().filter(|(_, mistake)| of_links(mistake)).collect()
+    let left_out = |number: u32| number == mistakes::TREE_COUNT || number == mistakes::LINK_COUNT && few_links;
+    parsed.mistakes().into_iter().filter(|(_, mistake)| !left_out(mistake.number)).collect()
 }
 
 pub fn fit(arguments: &Arguments) -> Done {
     let source = arguments.source();
-    let (parsed, text) = source.text()?;
+    let (parsed, text) = source.text_without_trees()?;
     let (network, names) = (&parsed.contents.network, &parsed.names);
     let mistakes = link_mistakes(&parsed);
     if !mistakes.is_empty() {

@@ -88,8 +88,17 @@ impl Source {
 
     /// The network of a text, and the text. The error has a line for each fault.
     pub fn text(&self) -> Result<(Parsed, String), String> {
+        self.text_by(text::parse)
+    }
+
+    /// The same without the trees, for those who do not need them.
+    pub fn text_without_trees(&self) -> Result<(Parsed, String), String> {
+        self.text_by(text::parse_without_trees)
+    }
+
+    fn text_by(&self, parse: fn(&[u8]) -> Result<Parsed, Vec<Fault>>) -> Result<(Parsed, String), String> {
         let bytes = self.read(Kind::Text)?;
-        let parsed = text::parse(&bytes).map_err(|faults| self.faults(&faults))?;
+        let parsed = parse(&bytes).map_err(|faults| self.faults(&faults))?;
         let text = text::decode(&bytes).map_err(|fault| self.faults(&[fault]))?;
         Ok((parsed, text.to_string()))
     }

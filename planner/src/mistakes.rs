@@ -146,3 +146,19 @@ fn unreached(network: &Network, members: impl Iterator<Item = usize>) -> Option<
     let members: Vec<usize> = members.filter(between_nodes).collect();
     levels::unreached(network.nodes, &network.links, &members)
 }
+
+#[cfg(test)]
+mod tests {
+    use super::*;
+
+    #[test]
+    fn refusal_numbers_are_1_to_16_and_19() {
+        assert_eq!(meaning(0), None);
+        assert_eq!(meaning(1), Some("the side area has fewer than 32 bytes"));
+        assert_eq!(meaning(8), Some("a map byte exceeds 15, or link 0's map byte is neither 7 nor 15"));
+        assert_eq!(meaning(15), Some("the member links do not join every node to node 0"));
+        assert_eq!(meaning(16), Some("bytes follow the last tree"));
+        assert_eq!([17, 18, 20, u32::MAX].map(meaning), [None; 4]);
+        assert_eq!(meaning(19), Some("the area cannot hold every side of the list, at 32 bytes a side"));
+    }
+}

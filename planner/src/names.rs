@@ -138,6 +138,14 @@ mod tests {
     }
 
     #[test]
+    fn all_nodes_of_a_list_are_named() {
+        let upto = |last: usize| names(&[None; 15]).node_list(&(1..=last).collect::<Vec<_>>());
+        assert_eq!(upto(1), "node 1");
+        assert_eq!(upto(2), "nodes 1 and 2");
+        assert_eq!(upto(14), "nodes 1, 2, 3, 4, 5, 6, 7, 8, 9, 10, 11, 12, 13 and 14");
+    }
+
+    #[test]
     fn a_name_that_could_mislead_is_quoted() {
         let plain = ["hall-B", "Hall B/2", "Kühlhaus #3", "nodes", "17a"];
         plain.iter().for_each(|name| assert_eq!(shown(name), *name));

@@ -36,7 +36,6 @@ pub struct Parsed {
 #[derive(Clone, Debug, Default, PartialEq, Eq)]
 struct Lines {
     nodes: usize,
-    names: Vec<Option<usize>>,
     links: Vec<usize>,
     trees: Vec<usize>,
 }
@@ -46,8 +45,8 @@ impl Lines {
     fn of(&self, place: Place, number: u32) -> usize {
         let last = self.trees.last().or(self.links.last()).unwrap_or(&self.nodes);
         let line = match (place, number) {
-            (Place::Header, 5) => self.links.get(MOST_LINKS).unwrap_or(&self.nodes),
-            (Place::Header, 6) => self.trees.get(MOST_TREES).unwrap_or(last),
+            (Place::Header, mistakes::LINK_COUNT) => self.links.get(MOST_LINKS).unwrap_or(&self.nodes),
+            (Place::Header, mistakes::TREE_COUNT) => self.trees.get(MOST_TREES).unwrap_or(last),
             (Place::Header, _) => &self.nodes,
             (Place::Link(link), _) => self.links.get(link).unwrap_or(last),
             (Place::Tree(tree), _) => self.trees.get(tree).unwrap_or(last),
@@ -78,8 +77,17 @@ impl Parsed {
 /// Reads a text. What it gives fits the fields of a sheet; whether the monitor accepts it is for `mistakes` to say. The faults are all
 /// of the file's, by their lines, those for which the monitor would refuse what can be read among them.
 pub fn parse(file: &[u8]) -> Result<Parsed, Vec<Fault>> {
+    read(file, false)
+}
+
+/// The same of a text without its trees, whatever their lines hold.
+pub fn parse_without_trees(file: &[u8]) -> Result<Parsed, Vec<Fault>> {
+    read(file, true)
+}
+
+fn read(file: &[u8], without_trees: bool) -> Result<Parsed, Vec<Fault>> {
     let text = decode(file).map_err(|fault| vec![fault])?;
-    let mut reader = Reader::new(text.lines().find_map(title));
+    let mut reader = Reader::new(text.lines().find_map(title), without_trees);
     for (number, line) in (1..).zip(text.lines()) {
         reader.read(number, line);
     }

@@ -56,6 +56,20 @@ fn fitting_keeps_all_lines_but_the_trees() {
     assert_eq!(printed(&["fit"], expected), expected);
 }
 
+/// As they are after a link was taken out of the text: one tree names a link that is no more, the other has one too many.
+#[test]
+fn trees_that_are_wrong_do_not_keep_a_network_from_being_fitted_and_exported() {
+    let links = "nodes 3\nlink 0-1:2\nlink 1-2:2\n";
+    let trees = "tree share 1 links 0 2\ntree share x\ntree share 9 links 0 1 1\n";
+    let fitted = format!("{links}tree share 2 links 0 1\n");
+    assert_eq!(printed(&["fit"], &format!("{links}{trees}")), fitted);
+    assert_eq!(printed(&["fit"], &format!("{links}{}", "tree share 1 links 0\n".repeat(300))), fitted);
+    assert_eq!(printed(&["export"], &format!("{links}{trees}")), "from,to,capacity\n0,1,2\n1,2,2\n");
+    let (status, printed, errors) = network(&["fit"], format!("{links}{trees}link 0-2:1\n").as_bytes());
+    let late = "standard input:7: link 0-2:1: expected all links before the first tree, and line 4 is a tree\n";
+    assert_eq!((status, printed.len(), errors.as_str()), (Some(1), 0, late));
+}
+
 #[test]
 fn a_network_that_falls_apart_cannot_be_fitted() {
     let cables = "from,to,capacity\ncore,a,1\nb,c,1\n";

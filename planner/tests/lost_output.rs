@@ -23,4 +23,13 @@ fn lost_output_is_an_error() {
         assert_eq!((status, errors.lines().count()), (Some(1), 1), "{errors}");
         assert!(errors.starts_with("standard output: "), "{errors}");
     }
+    // reports end at the first that cannot be printed: nothing is said of the second file
+    let two_files = ["report", "-", "missing.net"];
+    let mut unread = start(&two_files, Stdio::piped());
+    drop(unread.stdout.take());
+    assert_eq!(finish(unread, TEXT), (Some(1), vec![], String::new()));
+    let full = File::create("/dev/full").expect("a file that cannot be written");
+    let (status, _, errors) = finish(start(&two_files, full.into()), TEXT);
+    assert_eq!((status, errors.lines().count()), (Some(1), 1), "{errors}");
+    assert!(errors.starts_with("standard output: "), "{errors}");
 }

@@ -100,7 +100,8 @@ fn lines_named(arguments: &[&str], input: &[u8]) -> Vec<usize> {
 fn more_than_60_wrong_inputs_have_their_line_named() {
     assert!(TEXTS.len() + LISTS.len() > 60);
     for (line, text) in TEXTS {
-        for subcommand in ["report", "fit"] {
+        let of_a_tree = text.lines().nth(line - 1).is_some_and(|line| line.starts_with("tree"));
+        for subcommand in if of_a_tree { &["report", "list"][..] } else { &["report", "list", "fit"] } {
             assert_eq!(lines_named(&[subcommand], text.as_bytes()).first(), Some(&line), "{text:?}");
         }
     }

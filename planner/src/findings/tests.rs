@@ -281,6 +281,67 @@ fn a_list_has_a_line_for_each_cut_with_its_links() {
     assert_eq!(lines, expected);
 }
 
+/// What the first line of a list says of other cuts: of that of node 1 alone, where its links weigh what is given and the trees hold link 0.
+#[track_caller]
+fn assert_others(weight: u64, shares: &[u64], expected: &str) {
+    let trees: String = shares.iter().map(|share| format!("tree share {share} links 0\n")).collect();
+    let parsed = parse(&format!("nodes 2\nlink 0-1:5\nlink 0-1:{}\n{trees}", weight - 5));
+    let head = reference_findings(&parsed).list_lines().next();
+    assert_eq!(head, Some(format!("1 cut of weight {weight}. {expected}\n")));
+}
+
+const NONE_LIGHTER: &str =
+    "No cut of the whole network weighs less. Others that no tree shows may weigh 6 too, since three times the \
+                            shares that count is 6 and not more.";
+
+#[test]
+fn a_list_is_complete_where_three_times_the_shares_exceed_the_weight() {
+    let complete = |weight| {
+        format!("The list is complete: no other cut of the whole network weighs {weight}, and none weighs less.")
+    };
+    let neither = "No cut that the listed trees show is lighter, and all of theirs of this weight are listed; the whole network may \
+                   hold others as light or lighter, but none that weighs less than 6.";
+    assert_others(5, &[2], &complete(5));
+    assert_others(6, &[2], NONE_LIGHTER);
+    assert_others(7, &[2], neither);
+    assert_others(5, &[1, 0, 1], &complete(5));
+    assert_others(8, &[1, 2], &complete(8));
+}
+
+#[test]
+fn trees_that_do_not_count_make_no_list_complete() {
+    assert_others(6, &[2, 4], NONE_LIGHTER);
+    assert_others(
+        7,
+        &[2, 4],
+        "No cut that the listed trees show is lighter, and all of theirs of this weight are listed; the whole network may hold \
+         others as light or lighter, but none that weighs less than 6. Tree 1 would bring the load of link 0 to 6, more than its \
+         weight of 5, so only tree 0 counts.",
+    );
+    assert_others(
+        6,
+        &[6],
+        "No cut that the listed trees show is lighter, and all of theirs of this weight are listed. Tree 0 would bring the load of \
+         link 0 to 6, more than its weight of 5, so no tree counts and nothing is known of the cuts that no tree shows.",
+    );
+    assert_others(
+        6,
+        &[0, 0],
+        "No cut that the listed trees show is lighter, and all of theirs of this weight are listed. All shares are 0, so nothing \
+         is known of the cuts that no tree shows.",
+    );
+}
+
+/// Three links hold the side of nodes 2 and 3, and the tree has two of them.
+#[test]
+fn links_that_no_tree_holds_are_named_too() {
+    let parsed = parse("nodes 4\nlink 0-1:9\nlink 1-2:3\nlink 2-3:9\nlink 3-0:4\nlink 1-3:2\ntree share 3 links 0 1 3");
+    let expected =
+        "The cut severs nodes 2 and 3 from node 0. It crosses links 1 (1-2:3), 3 (3-0:4) and 4 (1-3:2), which weigh 9 \
+                    together; links 1 and 3 of tree 0 name it. No cut of the whole network weighs less.";
+    assert_eq!(reference_findings(&parsed).sentences()[0], expected);
+}
+
 /// The numbers between two words of a sentence.
 fn numbers_between(sentence: &str, from: &str, to: &str) -> Vec<u64> {
     let (_, behind) = sentence.split_once(from).expect(from);

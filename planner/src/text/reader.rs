@@ -19,13 +19,22 @@ const MOST_TREE_LINES: usize = u8::MAX as usize;
 /// What stands in for a link whose line has a fault.
 const UNREAD_LINK: Link = Link { first: 0, second: 0, weight: 0 };
 
+/// A node's name, and the line that has it.
+struct Named {
+    node: usize,
+    name: String,
+    line: usize,
+}
+
 /// What was read so far, and the faults of it. A record with a fault keeps its place, so that those behind it keep their numbers.
 #[derive(Default)]
 pub struct Reader {
     title: Option<String>,
+    /// Whether the lines of trees are only counted, and not read.
+    without_trees: bool,
     /// None before the line with the node count, and where that has a fault.
     nodes: Option<usize>,
-    names: Vec<(usize, String)>,
+    names: Vec<Named>,
     links: Vec<Option<Link>>,
     link_names: Vec<Option<String>>,
     trunks: Vec<u16>,
@@ -39,8 +48,8 @@ pub struct Reader {
 }
 
 impl Reader {
-    pub fn new(title: Option<String>) -> Reader {
-        Reader { title, ..Reader::default() }
+    pub fn new(title: Option<String>, without_trees: bool) -> Reader {
+        Reader { title, without_trees, ..Reader::default() }
     }
 
     pub fn read(&mut self, number: usize, line: &str) {
@@ -95,23 +104,18 @@ impl Reader {
             }
             _ => {}
         }
-        let line_of = |node: usize| self.lines.names[node].unwrap_or_default();
-        for (named, other) in &self.names {
-            if *named == node {
-                return line.fault(&format!("expected one name for node {node}, and line {} has one", line_of(node)));
+        for other in &self.names {
+            if other.node == node {
+                return line.fault(&format!("expected one name for node {node}, and line {} has one", other.line));
             }
-            if *other == name {
+            if other.name == name {
                 return line.fault(&format!(
-                    "expected another name, since node {named} has this one on line {}",
-                    line_of(*named)
+                    "expected another name, since node {} has this one on line {}",
+                    other.node, other.line
                 ));
             }
         }
-        self.names.push((node, name));
-        if self.lines.names.len() <= node {
-            self.lines.names.resize(node + 1, None);
-        }
-        self.lines.names[node] = Some(line.number());
+        self.names.push(Named { node, name, line: line.number() });
         Ok(())
     }
 
@@ -157,6 +161,10 @@ impl Reader {
     }
 
     fn read_tree(&mut self, line: &mut Line) -> Result<(), Fault> {
+        if self.without_trees {
+            self.lines.trees.push(line.number());
+            return Ok(());
+        }
         if self.trees.len() == MOST_TREE_LINES {
             return line.fault(&format!("expected at most {MOST_TREES} trees, found one more than {MOST_TREE_LINES}"));
         }
@@ -210,13 +218,13 @@ impl Reader {
 
     /// A name that is the number of a node without a name could mean either node.
     fn check_numbers_as_names(&mut self) {
-        for (node, name) in self.names.iter().filter(|(_, name)| names::is_number(name)) {
+        for Named { node, name, line } in self.names.iter().filter(|named| names::is_number(&named.name)) {
             let other = name.parse().ok().filter(|other| other != node && Some(*other) < self.nodes);
-            let Some(other) = other.filter(|other| !self.names.iter().any(|(named, _)| named == other)) else {
+            let Some(other) = other.filter(|other| !self.names.iter().any(|named| named.node == *other)) else {
                 continue;
             };
             let message = format!("expected a name for node {other} too, since the name of node {node} is its number");
-            self.faults.push(Fault { line: self.lines.names[*node].unwrap_or_default(), message });
+            self.faults.push(Fault { line: *line, message });
         }
     }
 
@@ -228,7 +236,7 @@ impl Reader {
         let trees = self.trees.iter().map(|tree| tree.clone().unwrap_or(unread_tree.clone())).collect();
         let mut names = Names::none(nodes, 0);
         names.links = self.link_names.clone();
-        for (node, name) in self.names.iter().filter(|(node, _)| *node < nodes) {
+        for Named { node, name, .. } in self.names.iter().filter(|named| named.node < nodes) {
             names.nodes[*node] = Some(name.clone());
         }
         let contents = Contents { network: Network { nodes, links, trees }, trunks: self.trunks.clone() };
