@@ -92,6 +92,12 @@ fn links_that_the_monitor_refuses_cannot_be_fitted() {
     let message = "standard input:1: the monitor refuses this network, number 4: the node count is 257, and the monitor takes 2 to \
                    256\n";
     assert_eq!(network(&["fit"], nodes), (Some(3), vec![], message.to_string()));
+    let links = format!("nodes 2\n{}", "link 0-1:1\n".repeat(2049));
+    let message = "standard input:2050: the monitor refuses this network, number 5: the link count is 2049, and the monitor takes at \
+                   most 2048\n";
+    for subcommand in ["fit", "export"] {
+        assert_eq!(network(&[subcommand], links.as_bytes()), (Some(3), vec![], message.to_string()));
+    }
 }
 
 #[test]
