@@ -11,9 +11,10 @@ use lib.Dec.{eqb}
 use Rattle.cuts.specs.Sums.{table}
 use Rattle.cuts.specs.Network.{Link, noLink}
 use Rattle.cuts.specs.Limits.{mostNodes, mostLinks}
-use Rattle.cuts.proofs.SumLaws.{table-length, table-congr, table-at}
+use Rattle.cuts.proofs.SumLaws.{table-congr}
 use Rattle.arrays.specs.Lists.{part}
 use Rattle.arrays.specs.Links.{EndArrays, linksOf, LinkArrays}
+use Rattle.arrays.proofs.LinkLaws.{linksOf-length}
 use Rattle.sheet.specs.Bytes.{Bytes}
 use Rattle.sheet.specs.Reading.{accepted, refused, records}
 use Rattle.sheet.specs.Sheet.{Format, linkRecord, nextLink}
@@ -21,14 +22,6 @@ use Rattle.read_links.specs.LinksRead.{linkOf}
 use Rattle.read_links.specs.declared.Link as link
 use Rattle.sheet.proofs.Acceptance.{GoodLink, good-link}
 use Rattle.sheet.proofs.ReadingLaws.{Run, run-more, run-stop, run-done}
-
-pub linksOf-length : (m : ℕ) (fs ss ws : List ℕ) → length (linksOf m fs ss ws) ≡ m
-unfolding linksOf
-linksOf-length m fs ss ws = table-length m _
-
-pub linksOf-at : (m : ℕ) (fs ss ws : List ℕ) (k : ℕ) → k < m → getD (linksOf m fs ss ws) k noLink ≡ record { first = getD fs k 0; second = getD ss k 0; weight = getD ws k 0 }
-unfolding linksOf
-linksOf-at m fs ss ws k b = table-at noLink m _ k b
 
 -- one link more
 linksOf-set : (k a b w : ℕ) (fs ss ws : List ℕ) → k < length fs → k < length ss → k < length ws

@@ -14,7 +14,7 @@ use Rattle.sheet.specs.Reading.{Check, check, firstFailing, accepted, refused, 
 use Rattle.sheet.specs.Sheet.{Format, Counts, headerLength, countsIn, countChecks, headerRecord, nextLink, treeRecord, network, decodeBody, decode}
 use Rattle.sheet.proofs.ReadingLaws.{passed, unless-accepted, records-all}
 use Rattle.sheet.proofs.Acceptance.{GoodLink, good-link}
-use Rattle.read_links.proofs.LinksLaws.{linksOf-length, linksOf-at}
+use Rattle.arrays.proofs.LinkLaws.{linksOf-length, linksOf-at}
 
 -- arrays that hold the links read hold a network of nodes
 pub held-links : (f : Format) (nodes m : ℕ) (fs ss ws : List ℕ) (bs rest : Bytes) → 0 < nodes → accepted (linksOf m fs ss ws) rest ≡ records (nextLink f nodes) m [] bs

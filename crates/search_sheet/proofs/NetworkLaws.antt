@@ -17,7 +17,7 @@ use Rattle.tree_growth.proofs.RunLaws.{held-ending}
 use Rattle.sheet.specs.Bytes.{Bytes, mapBit}
 use Rattle.sheet.specs.Sheet.{Format, Counts, current, treeLength, treeIn, network, Accepted}
 use Rattle.sheet.proofs.Acceptance.{members-counted}
-use Rattle.read_links.proofs.LinksLaws.{linksOf-length, linksOf-at}
+use Rattle.arrays.proofs.LinkLaws.{linksOf-length, linksOf-at}
 use Rattle.arrays.specs.Records.{treesFrom, networkAt, recordAt, SheetHeld}
 use Rattle.read_sheet.specs.TreesRead.{LinksKnown}
 use Rattle.read_sheet.proofs.TreeLaws.{record-inside}

@@ -10,7 +10,7 @@ use Rattle.sheet.specs.Bytes.{Bytes}
 use Rattle.sheet.specs.Reading.{accepted}
 use Rattle.sheet.specs.Sheet.{current, decode}
 use Rattle.read_header.specs.HeaderRead.{countsOf}
-use Rattle.read_links.proofs.LinksLaws.{linksOf-length}
+use Rattle.arrays.proofs.LinkLaws.{linksOf-length}
 use Rattle.arrays.specs.Records.{networkAt}
 use Rattle.read_sheet.specs.SheetRead.{sheetSays}
 use Rattle.read_sheet.specs.declared.Outcome.{Outcome}

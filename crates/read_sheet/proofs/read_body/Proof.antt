@@ -15,7 +15,7 @@ use Rattle.format.specs.Steps.{stepSays, Inside, EndsAt}
 use Rattle.read_header.specs.HeaderRead.{countsOf}
 use Rattle.arrays.specs.Records.{treesFrom}
 use Rattle.format.specs.declared.Step.{Step}
-use Rattle.read_links.proofs.LinksLaws.{linksOf-length}
+use Rattle.arrays.proofs.LinkLaws.{linksOf-length}
 use Rattle.read_sheet.proofs.SheetLaws.{held-links, refused-by-links, refused-by-trees, bytes-left, sheet-read}
 use Rattle.read_sheet.proofs.read_body.Statement.{statement}
 use Rattle.read_sheet.proofs.read_body.Tie as tie
