@@ -10,7 +10,7 @@ pub const MOST_LINKS: usize = 2048;
 
 pub const MOST_TREES: usize = 32;
 
-// The bytes of a side area that are written.
+// The bytes of a side area that are written, and those of a side map that are read.
 pub const SIDE_LENGTH: usize = 32;
 
 // The bytes of a report area that are written.

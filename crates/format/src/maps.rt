@@ -1,4 +1,4 @@
-// Link maps: one bit a link, link k in bit k mod 8 of byte k / 8.
+// Link maps and side maps: one bit a link or a node, k in bit k mod 8 of byte k / 8.
 ghost use mathlib.Core.Path.{_≡_};
 ghost use mathlib.Core.Bool.{_&&_};
 ghost use Prim.Native.Nat.{_*_, _≤_, _<_};
@@ -18,12 +18,12 @@ pub fn bit_set(map: &[u8], k: usize) -> bool
     (map[k / 8] >> (k % 8)) % 2 == 1
 }
 
-// Whether a bit is set from the link count up.
-pub fn stray_bit(map: &[u8], links: usize) -> bool
+// Whether a bit is set from the count up, of links or of nodes.
+pub fn stray_bit(map: &[u8], count: usize) -> bool
     requires { ⌜ length (now map) ≤ mapLength mostLinks ⌝ }
-    ensures { λ r. ⌜ r ≡ anyTo (8 * length (now (map .entry))) (λ k. leb links k && mapBit (now (map .entry)) k) ⌝ }
+    ensures { λ r. ⌜ r ≡ anyTo (8 * length (now (map .entry))) (λ k. leb count k && mapBit (now (map .entry)) k) ⌝ }
 {
-    let mut k = links;
+    let mut k = count;
     while k < 8 * map.len() {
         if bit_set(map, k) {
             return true;

@@ -1,6 +1,6 @@
 // The refusal numbers of document 01, as document 02 changes them. Number 11 is not among them: every weight is allowed.
 
-// The side area has fewer than 32 bytes.
+// The side area, or a side map, has fewer than 32 bytes.
 pub const SHORT_SIDE: u32 = 1;
 
 // The report area has fewer than 24 bytes.
@@ -47,3 +47,6 @@ pub const BYTES_LEFT: u32 = 16;
 
 // The area cannot hold every side of the list, at 32 bytes a side.
 pub const SHORT_LIST: u32 = 19;
+
+// A side map is empty, has node 0, or has a bit set from the node count up.
+pub const NO_SIDE: u32 = 21;

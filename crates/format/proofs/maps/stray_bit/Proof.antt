@@ -15,10 +15,10 @@ use Rattle.format.proofs.maps.stray_bit.Statement.{statement}
 use Rattle.format.proofs.maps.stray_bit.Tie as tie
 
 abbrev Inv-loop : tie.InvT-loop
-Inv-loop map links k₀ k = (length map ≤ 256) × (links ≤ k) × ((j : ℕ) → links ≤ j → j < k → mapBit map j ≡ false)
+Inv-loop map count k₀ k = (length map ≤ 256) × (count ≤ k) × ((j : ℕ) → count ≤ j → j < k → mapBit map j ≡ false)
 
 abbrev μ-loop : tie.MeasureT-loop
-μ-loop map links k₀ k = 8 * length map - k
+μ-loop map count k₀ k = 8 * length map - k
 
 loop-holds : tie.Need-loop-holds Inv-loop μ-loop
 loop-holds c = (omega arith, omega arith, λ j a b. absurd (omega arith))
@@ -33,8 +33,8 @@ returns : tie.Need-returns Inv-loop μ-loop
 returns c =
     let l = c .before .before .before .loop in
     let a = c .before .before .before .before .before .args in
-    sym (anyTo-at (8 * length (a .map .now)) (λ j. leb (a .links) j && mapBit (a .map .now) j) (l .k) (omega arith)
-    (rw (le-leb (a .links) (l .k) (l .inv .1)) (sym (c .before .bit-set .ensures) ∙ c .if1 .taken)))
+    sym (anyTo-at (8 * length (a .map .now)) (λ j. leb (a .count) j && mapBit (a .map .now) j) (l .k) (omega arith)
+    (rw (le-leb (a .count) (l .k) (l .inv .1)) (sym (c .before .bit-set .ensures) ∙ c .if1 .taken)))
 
 add-k : tie.Need-add-k Inv-loop μ-loop
 add-k c = omega arith
@@ -48,7 +48,7 @@ loop-again c =
     let a = c .before .before .before .before .before .args in (
       omega arith,
       omega arith,
-      rw add-one (λ j b d. all-suc (λ j. a .links ≤ j → mapBit (a .map .now) j ≡ false) (l .k) (λ j d b. l .inv .2 j b d)
+      rw add-one (λ j b d. all-suc (λ j. a .count ≤ j → mapBit (a .map .now) j ≡ false) (l .k) (λ j d b. l .inv .2 j b d)
           (λ b. sym (c .before .bit-set .ensures) ∙ c .if1 .left) j d b),
     )
 
@@ -56,7 +56,7 @@ returns-2 : tie.Need-returns-2 Inv-loop μ-loop
 returns-2 c =
     let l = c .before .loop in
     let a = c .before .before .before .args in
-    sym (stray-none (a .map .now) (a .links) (8 * length (a .map .now)) (λ j b d. l .inv .2 j b (omega arith)))
+    sym (stray-none (a .map .now) (a .count) (8 * length (a .map .now)) (λ j b d. l .inv .2 j b (omega arith)))
 
 pub stray-bit-spec : {M : Type 1} → statement M
 stray-bit-spec =
