@@ -19,4 +19,15 @@ extern "C" {
         sides_length: usize,
         count: *mut u32,
     ) -> u32;
+
+    /// The same of the sheet and the two maps, which are only read; the table is 16 numbers that none of them overlaps.
+    pub fn wcut_corners(
+        sheet: *const u8,
+        sheet_length: usize,
+        first: *const u8,
+        first_length: usize,
+        second: *const u8,
+        second_length: usize,
+        table: *mut u64,
+    ) -> u32;
 }

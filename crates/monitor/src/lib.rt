@@ -1,3 +1,4 @@
 // The entries that firmware calls, a module for each.
+pub mod corner_table; // wcut_corners
 pub mod list; // wcut_list
 pub mod report; // wcut_report
