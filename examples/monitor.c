@@ -1,8 +1,8 @@
 /*
- * Calls both entries on four sheets and prints what they answer, a report in the form of the report program and then the list: document
- * 01's case A, the same sheet with one byte more, which is refused, one whose weight and floor need more than 4 bytes, and a ring of four
- * nodes, whose list has six sides and is refused when the area has room for five. `make test` builds and runs this; tools/firmware has
- * the commands.
+ * Calls wcut_report and wcut_list on four sheets and prints what they answer, a report in the form of the report program and then the list:
+ * document 01's case A, the same sheet with one byte more, which is refused, one whose weight and floor need more than 4 bytes, and a ring
+ * of four nodes, whose list has six sides and is refused when the area has room for five. Then it asks wcut_corners what runs between the
+ * corners of two cuts of the ring that overlap. `make test` builds and runs this; tools/firmware has the commands.
  */
 #include <inttypes.h>
 #include <stdio.h>
@@ -70,6 +70,24 @@ static void show_report(const uint8_t *sheet, size_t length)
     show_side(side);
 }
 
+static void show_corners(const uint8_t *sheet, size_t length, const uint8_t *first, const uint8_t *second)
+{
+    uint64_t table[WCUT_TABLE_NUMBERS];
+    uint32_t refusal = wcut_corners(sheet, length, first, WCUT_SIDE_BYTES, second, WCUT_SIDE_BYTES, table);
+    unsigned row, column;
+
+    if (refusal != WCUT_ACCEPTED) {
+        printf("refused %" PRIu32 "\n", refusal);
+        return;
+    }
+    for (row = 0; row < WCUT_CORNERS; row++) {
+        printf("corner");
+        for (column = 0; column < WCUT_CORNERS; column++)
+            printf(" %" PRIu64, table[WCUT_CORNERS * row + column]);
+        printf("\n");
+    }
+}
+
 static void show(const uint8_t *sheet, size_t length)
 {
     show_report(sheet, length);
@@ -101,10 +119,16 @@ int main(void)
         0x01, 0x00, 0x00, 0x00, 0x07                          /* tree 0: share 1, links 0, 1 and 2 */
     };
 
+    static const uint8_t near[WCUT_SIDE_BYTES] = {0x06}; /* nodes 1 and 2 */
+    static const uint8_t far[WCUT_SIDE_BYTES] = {0x0C};  /* nodes 2 and 3 */
+    static const uint8_t all[WCUT_SIDE_BYTES] = {0x0F};  /* also node 0, so that it is no side */
+
     show(sheet, sizeof sheet - 1);
     show(sheet, sizeof sheet);
     show(heavy, sizeof heavy);
     show(ring, sizeof ring);
     show_list(ring, sizeof ring, ROOM - 1);
+    show_corners(ring, sizeof ring, near, far);
+    show_corners(ring, sizeof ring, near, all);
     return 0;
 }

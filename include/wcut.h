@@ -1,10 +1,10 @@
 /*
  * The weakest-cut monitor: from a serialised network, the link sheet, to the lightest cut that crosses at most two links of some
- * listed spanning tree, and whether it is provably the lightest cut of the whole network (wcut_report); and to every such cut of that
- * weight (wcut_list). docs/ENTRY.md has the layouts and the cost.
+ * listed spanning tree, and whether it is provably the lightest cut of the whole network (wcut_report); to every such cut of that weight
+ * (wcut_list); and to what runs between the corners of two cuts (wcut_corners). docs/ENTRY.md has the layouts and the cost.
  *
  * Link with libmonitor.a, which is for x86-64 and its System V calling convention; it needs memset and memcpy. The entries keep no state,
- * allocate nothing, and take WCUT_STACK_BYTES and WCUT_LIST_STACK_BYTES of stack.
+ * allocate nothing, and take WCUT_STACK_BYTES, WCUT_LIST_STACK_BYTES and WCUT_CORNERS_STACK_BYTES of stack.
  */
 #ifndef WCUT_H
 #define WCUT_H
@@ -17,11 +17,12 @@ extern "C" {
 #endif
 
 /* Sizes. */
-#define WCUT_SIDE_BYTES 32       /* a side, in the side area and in a list: node k is bit k % 8 of byte k / 8 */
+#define WCUT_SIDE_BYTES 32       /* a side, in the side area, in a list and in a side map: node k is bit k % 8 of byte k / 8 */
 #define WCUT_REPORT_BYTES 24     /* the report area, laid out as below */
 #define WCUT_LONGEST_SHEET 30853 /* a sheet of more bytes is refused */
 #define WCUT_STACK_BYTES 45136   /* what a call takes of the stack: measured on longest sheets (tools/bench --stack), not proved */
 #define WCUT_LIST_STACK_BYTES 57584 /* the same of wcut_list */
+#define WCUT_CORNERS_STACK_BYTES 17664 /* the same of wcut_corners */
 #define WCUT_MOST_NODES 256
 #define WCUT_MOST_LINKS 2048
 #define WCUT_MOST_TREES 32
@@ -40,13 +41,21 @@ extern "C" {
 #define WCUT_VERDICT_WHOLE 2      /* provably lightest of the whole network */
 #define WCUT_NO_SECOND 65535      /* the cut crosses one tree link only */
 
+/* The corners of two sides, by their rows and columns in the table: the weight between corners i and j is table[WCUT_CORNERS * i + j]. */
+#define WCUT_CORNERS 4
+#define WCUT_IN_BOTH 0
+#define WCUT_IN_FIRST_ONLY 1
+#define WCUT_IN_SECOND_ONLY 2
+#define WCUT_IN_NEITHER 3
+#define WCUT_TABLE_NUMBERS 16
+
 /*
  * What the entries return: 0, or the first refusal that applies, in this order; within links and trees, record by record. A trunk number
- * is a field of its link. wcut_report never returns 19, wcut_list never 1 or 2. docs/REFUSALS.md has the same numbers, names and words;
- * `make test` compares them. Units already sold give 2 only below 16 bytes, and 8 to every map byte above 7.
+ * is a field of its link. wcut_report returns 1 to 16, wcut_list 3 to 19, wcut_corners 1, 3 to 16 and 21. docs/REFUSALS.md has the same
+ * numbers, names and words; `make test` compares them. Units already sold give 2 only below 16 bytes, and 8 to every map byte above 7.
  */
 #define WCUT_ACCEPTED 0
-#define WCUT_SHORT_SIDE 1    /* the side area has fewer than 32 bytes */
+#define WCUT_SHORT_SIDE 1    /* the side area, or a side map, has fewer than 32 bytes */
 #define WCUT_SHORT_REPORT 2  /* the report area has fewer than 24 bytes */
 #define WCUT_SHORT_HEADER 3  /* the sheet has fewer than 5 bytes */
 #define WCUT_NODE_COUNT 4    /* the node count is below 2 or above 256 */
@@ -63,6 +72,7 @@ extern "C" {
 #define WCUT_NOT_JOINED 15   /* the member links do not join every node to node 0 */
 #define WCUT_BYTES_LEFT 16   /* bytes follow the last tree */
 #define WCUT_SHORT_LIST 19   /* the area cannot hold every side of the list, at 32 bytes a side */
+#define WCUT_NO_SIDE 21      /* a side map is empty, has node 0, or has a bit set from the node count up */
 
 /*
  * Reads the sheet, writes the first 32 bytes of the side area and the first 24 of the report area, and returns WCUT_ACCEPTED; or
@@ -99,6 +109,25 @@ uint32_t wcut_report(const uint8_t *sheet, size_t sheet_length,
 uint32_t wcut_list(const uint8_t *sheet, size_t sheet_length,
                    uint8_t *sides, size_t sides_length,
                    uint32_t *count);
+
+/*
+ * Reads the sheet and two sides as maps, and writes the weights between their four corners, the nodes in both sides, in the first only, in
+ * the second only and in neither: table[WCUT_CORNERS * i + j] is the sum of the weights of the links between the corners i and j, and 0
+ * where i is j. Sets all 16 numbers and returns WCUT_ACCEPTED; or sets all 16 to 0 and returns the number of the first refusal:
+ * WCUT_SHORT_SIDE where a map has fewer than 32 bytes, then the sheet's, then WCUT_NO_SIDE where a map gives no side without node 0. The
+ * sides may be any, such as those of wcut_list. Only the first 32 bytes of a map are read.
+ *
+ * The caller's duties:
+ *   - each pointer is not null; sheet, first and second point to as many bytes as the length behind each says, table to 16 numbers that are
+ *     writable, and what these hold does not matter;
+ *   - the table overlaps neither the sheet nor a map, which may overlap each other: one map may be passed twice;
+ *   - nothing else reads or writes the table, or writes the sheet or a map, during the call;
+ *   - the stack has room for WCUT_CORNERS_STACK_BYTES.
+ */
+uint32_t wcut_corners(const uint8_t *sheet, size_t sheet_length,
+                      const uint8_t *first, size_t first_length,
+                      const uint8_t *second, size_t second_length,
+                      uint64_t table[WCUT_TABLE_NUMBERS]);
 
 #ifdef __cplusplus
 }

@@ -14,9 +14,9 @@ pub const MEMBER_COUNT: u32 = 14;
 const NOT_JOINED: u32 = 15;
 
 /// What the refusal numbers mean, in the words of docs/REFUSALS.md and include/wcut.h. They are document 01's, with request F-2's for 2
-/// and 11, request F-9's for 8 and request F-5's 19.
-const MEANINGS: [(u32, &str); 17] = [
-    (1, "the side area has fewer than 32 bytes"),
+/// and 11, request F-9's for 8, request F-5's 19 and request F-8's for 1 and 21.
+const MEANINGS: [(u32, &str); 18] = [
+    (1, "the side area, or a side map, has fewer than 32 bytes"),
     (2, "the report area has fewer than 24 bytes"),
     (3, "the sheet has fewer than 5 bytes"),
     (NODE_COUNT, "the node count is below 2 or above 256"),
@@ -33,6 +33,7 @@ const MEANINGS: [(u32, &str); 17] = [
     (NOT_JOINED, "the member links do not join every node to node 0"),
     (16, "bytes follow the last tree"),
     (19, "the area cannot hold every side of the list, at 32 bytes a side"),
+    (21, "a side map is empty, has node 0, or has a bit set from the node count up"),
 ];
 
 /// What a refusal number means; none for a number that is no refusal.
@@ -152,13 +153,14 @@ mod tests {
     use super::*;
 
     #[test]
-    fn refusal_numbers_are_1_to_16_and_19() {
+    fn refusal_numbers_are_1_to_16_and_19_and_21() {
         assert_eq!(meaning(0), None);
-        assert_eq!(meaning(1), Some("the side area has fewer than 32 bytes"));
+        assert_eq!(meaning(1), Some("the side area, or a side map, has fewer than 32 bytes"));
         assert_eq!(meaning(8), Some("a map byte exceeds 15, or link 0's map byte is neither 7 nor 15"));
         assert_eq!(meaning(15), Some("the member links do not join every node to node 0"));
         assert_eq!(meaning(16), Some("bytes follow the last tree"));
-        assert_eq!([17, 18, 20, u32::MAX].map(meaning), [None; 4]);
+        assert_eq!([17, 18, 20, 22, u32::MAX].map(meaning), [None; 5]);
         assert_eq!(meaning(19), Some("the area cannot hold every side of the list, at 32 bytes a side"));
+        assert_eq!(meaning(21), Some("a side map is empty, has node 0, or has a bit set from the node count up"));
     }
 }
