@@ -214,23 +214,49 @@ fn report_on(source: &Source, arguments: &Arguments) -> Done {
     Ok(outcome)
 }
 
-/// Does something with the findings for the network of the one file given.
-fn with_findings(arguments: &Arguments, act: impl FnOnce(&str, &Findings)) -> Done {
+/// Does something with the findings for the network of the one file given; the error says why that cannot be.
+fn with_findings(arguments: &Arguments, act: impl FnOnce(&str, &Findings) -> Result<(), String>) -> Done {
     let source = arguments.source();
-    let (parsed, _) = source.text()?;
-    match findings::find(&parsed, None).map_err(|error| format!("{}: {error}", source.name()))? {
-        Ok(findings) => {
-            act(&source.name(), &findings);
-            Ok(Outcome::Accepted)
-        }
+    let (name, (parsed, _)) = (source.name(), source.text()?);
+    let of_file = |error: String| format!("{name}: {error}");
+    match findings::find(&parsed, None).map_err(of_file)? {
+        Ok(findings) => act(&name, &findings).map(|()| Outcome::Accepted).map_err(of_file),
         Err(_) => Ok(refused(&source, &parsed.mistakes())),
     }
 }
 
 pub fn list(arguments: &Arguments) -> Done {
-    with_findings(arguments, |name, findings| match arguments.has("--json") {
-        true => findings.list_record(name).for_each(|part| print(part.as_bytes())),
-        false => findings.list_lines().for_each(|line| print(line.as_bytes())),
+    with_findings(arguments, |name, findings| {
+        match arguments.has("--json") {
+            true => findings.list_record(name).for_each(|part| print(part.as_bytes())),
+            false => findings.list_lines().for_each(|line| print(line.as_bytes())),
+        }
+        Ok(())
+    })
+}
+
+pub fn overlap(arguments: &Arguments) -> Done {
+    let operands = arguments.operands();
+    let (first, second) = (cut_number(&operands[1])?, cut_number(&operands[2])?);
+    if first == second {
+        return Err(format!("expected two different cuts, found cut {first} twice"));
+    }
+    with_findings(arguments, |name, findings| {
+        let overlap = findings.overlap([first, second])?;
+        match arguments.has("--json") {
+            true => print(format!("{}\n", overlap.record(name)).as_bytes()),
+            false => print(overlap.text().as_bytes()),
+        }
+        Ok(())
+    })
+}
+
+/// The number of a cut, as the list has it.
+fn cut_number(given: &OsStr) -> Result<usize, String> {
+    let word = argument(given)?;
+    let number = Some(word).filter(|digits| names::is_number(digits)).and_then(|digits| digits.parse().ok());
+    number.filter(|&number| number > 0).ok_or_else(|| {
+        format!("expected the number of a cut, as `network list` prints it, found '{}'", text::shortened(word))
     })
 }
 
@@ -245,5 +271,6 @@ pub fn dot(arguments: &Arguments) -> Done {
 fn draw(arguments: &Arguments, write: fn(&Drawing) -> String) -> Done {
     with_findings(arguments, |name, findings| {
         print(write(&findings.drawing(name, arguments.has("--ties"))).as_bytes());
+        Ok(())
     })
 }

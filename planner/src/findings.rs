@@ -3,6 +3,7 @@
 
 mod cable;
 mod cut;
+mod overlap;
 mod record;
 mod run;
 mod scene;
@@ -10,6 +11,7 @@ mod sentences;
 #[cfg(test)]
 mod tests;
 
+pub use overlap::Overlap;
 pub use record::refusal;
 
 use crate::names::Names;
@@ -133,6 +135,16 @@ impl<'a> Findings<'a> {
             Ordering::Equal => Unlisted::NotLighter,
             Ordering::Less => Unlisted::Unknown,
         }
+    }
+
+    /// A side by its number in the list, from 1.
+    fn side(&self, number: usize) -> &Side {
+        &self.sides[number - 1]
+    }
+
+    /// Whether it is certain that no cut of the whole network weighs less than those of the list.
+    fn none_lighter(&self) -> bool {
+        self.answer.verdict == cuts::WHOLE
     }
 
     /// The nodes that the reported cut leaves with node 0.

@@ -28,7 +28,7 @@ const CORE: Flag = Flag { name: "--core", value: Some("SWITCH") };
 const PROGRAM: Flag = Flag { name: "--program", value: Some("PROGRAM") };
 const TIES: Flag = Flag { name: "--ties", value: None };
 
-const SUBCOMMANDS: [Subcommand; 10] = [
+const SUBCOMMANDS: [Subcommand; 11] = [
     Subcommand {
         name: "import",
         operands: "[CABLES]",
@@ -61,6 +61,14 @@ const SUBCOMMANDS: [Subcommand; 10] = [
         flags: &[JSON],
         about: "lists every cut as light as the reported one, smallest side first",
         run: commands::list,
+    },
+    Subcommand {
+        name: "overlap",
+        operands: "FILE I J",
+        count: 3..=3,
+        flags: &[JSON],
+        about: "shows the corners of cuts I and J of the list, the weights between them, and which of the two a cable crosses",
+        run: commands::overlap,
     },
     Subcommand {
         name: "picture",

@@ -58,6 +58,25 @@ pub fn list(sheet: &[u8], network: &Network) -> Said<Vec<Side>> {
     }
 }
 
+/// The weights between the four corners of two sides. Rows and columns are: in both, first only, second only, neither.
+pub type Table = [[u64; 4]; 4];
+
+/// What the entry of the corners writes for two sides.
+pub fn corners(sheet: &[u8], first: &Side, second: &Side) -> Said<Table> {
+    let mut table: Table = [[0; 4]; 4];
+    let cells = table.as_flattened_mut();
+    // SAFETY: each pointer to bytes is that of a slice or an array with the length behind it, and is only read; the cells are 16 numbers
+    // that none of these overlaps.
+    let number = unsafe {
+        let (first, second) = (first.as_ptr(), second.as_ptr());
+        entry::wcut_corners(sheet.as_ptr(), sheet.len(), first, SIDE_BYTES, second, SIDE_BYTES, cells.as_mut_ptr())
+    };
+    match number {
+        0 => Ok(table),
+        refusal => Err(refusal),
+    }
+}
+
 /// What the report program prints for a sheet; the error says why that is no report.
 pub fn run_program(program: &OsStr, sheet: &[u8]) -> Result<Said<Answer>, String> {
     let name = program.to_string_lossy();
@@ -116,6 +135,7 @@ fn parse_answer(words: &[&str]) -> Option<Answer> {
 #[cfg(test)]
 mod tests {
     use super::*;
+    use reference::documented::CASE_A;
 
     #[test]
     fn lines_are_read() {
@@ -155,6 +175,21 @@ mod tests {
         for lines in wrong {
             assert_eq!(parse_lines(lines), None, "{lines:?}");
         }
+    }
+
+    /// Of the triangle 0-1:3, 1-2:2, 0-2:4.
+    #[test]
+    fn the_entry_of_the_corners_is_asked() {
+        let side = |nodes: &[usize]| report::side_bytes(nodes.iter().copied());
+        let apart = [[0, 0, 0, 0], [0, 0, 2, 3], [0, 2, 0, 4], [0, 3, 4, 0]];
+        assert_eq!(corners(&CASE_A, &side(&[1]), &side(&[2])), Ok(apart));
+        let inside = [[0, 2, 0, 4], [2, 0, 0, 3], [0, 0, 0, 0], [4, 3, 0, 0]];
+        assert_eq!(corners(&CASE_A, &side(&[1, 2]), &side(&[2])), Ok(inside));
+        for wrong in [&[][..], &[0, 1], &[1, 3], &[255]] {
+            assert_eq!(corners(&CASE_A, &side(wrong), &side(&[1])), Err(21));
+            assert_eq!(corners(&CASE_A, &side(&[1]), &side(wrong)), Err(21));
+        }
+        assert_eq!(corners(&CASE_A[..4], &side(&[]), &side(&[1])), Err(3));
     }
 
     #[test]

@@ -1,6 +1,7 @@
 //! The command `network list` as a planner runs it.
 
 mod command;
+mod written;
 
 use command::{example, network};
 use planner::text;
@@ -9,60 +10,18 @@ use reference::network::Network;
 use reference::report::Side;
 use reference::{every_side, list};
 use std::cmp::Ordering;
+use written::{links, names, node_list, node_name, together, Written};
 
 fn list_of(file: &str) -> (Option<i32>, String, String) {
     let (status, printed, errors) = network(&["list", file], b"");
     (status, String::from_utf8(printed).expect("text"), errors)
 }
 
-/// A link of a network as text, read from its own line: its ends, its weight, and its name with a space before it, or nothing.
-struct Written {
-    ends: [usize; 2],
-    weight: u64,
-    name: String,
-}
-
-fn links(text: &str) -> Vec<Written> {
-    let link = |line: &str| {
-        let line = line.split('#').next().unwrap_or_default().trim();
-        let (numbers, rest) = line.split_once(' ').unwrap_or((line, ""));
-        let numbers: Vec<u64> = numbers.split(['-', ':']).map(|number| number.parse().expect(line)).collect();
-        let name = rest.split_once("name ").map_or(String::new(), |(_, name)| format!(" {name}"));
-        Written { ends: [numbers[0] as usize, numbers[1] as usize], weight: numbers[2], name }
-    };
-    text.lines().filter_map(|line| line.strip_prefix("link ")).map(link).collect()
-}
-
-/// The name of each node of a network as text, read from its own lines.
-fn names(text: &str, nodes: usize) -> Vec<Option<&str>> {
-    let mut names = vec![None; nodes];
-    for line in text.lines().filter_map(|line| line.strip_prefix("node ")) {
-        let (node, name) = line.split_once(' ').expect("a name");
-        names[node.parse::<usize>().expect("a number")] = Some(name);
-    }
-    names
-}
-
-/// `a`, `a and b`, `a, b and c`.
-fn together(words: &[String]) -> String {
-    let mut together = words.join(", ");
-    if let Some(comma) = together.rfind(", ") {
-        together.replace_range(comma..comma + 2, " and ");
-    }
-    together
-}
-
 /// The line of a list that a side of these nodes must have, and the weight of its links: those of which one end is met among the nodes.
 fn line(place: usize, nodes: &[usize], links: &[Written], names: &[Option<&str>]) -> (String, u64) {
     let met = |link: &Written| nodes.iter().filter(|node| link.ends.contains(node)).count();
     let crossing: Vec<(usize, &Written)> = links.iter().enumerate().filter(|(_, link)| met(link) == 1).collect();
-    let node = |node: usize| names[node].map_or(format!("node {node}"), str::to_string);
-    let severed = match nodes {
-        [_, _, ..] if nodes.iter().all(|&node| names[node].is_none()) => {
-            format!("nodes {}", together(&nodes.iter().map(usize::to_string).collect::<Vec<_>>()))
-        }
-        _ => together(&nodes.iter().map(|&one| node(one)).collect::<Vec<_>>()),
-    };
+    let node = |node: usize| node_name(node, names);
     let crossed = |&(number, Written { ends: [first, second], weight, name }): &(usize, &Written)| match (
         names[*first],
         names[*second],
@@ -72,6 +31,7 @@ fn line(place: usize, nodes: &[usize], links: &[Written], names: &[Option<&str>]
     };
     let word = if crossing.len() == 1 { "link" } else { "links" };
     let crossed = together(&crossing.iter().map(crossed).collect::<Vec<_>>());
+    let severed = node_list(nodes, names);
     (format!("{place}. {severed}; {word} {crossed}"), crossing.iter().map(|(_, link)| link.weight).sum())
 }
 

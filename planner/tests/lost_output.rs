@@ -7,19 +7,22 @@ use command::{finish, start};
 use std::fs::File;
 use std::process::Stdio;
 
-const TEXT: &[u8] = b"nodes 3\nlink 0-1:3\nlink 1-2:2\nlink 0-2:4\ntree share 2 links 0 2\n";
+/// Node 1 and node 2 are two lightest cuts.
+const TEXT: &[u8] = b"nodes 3\nlink 0-1:3\nlink 1-2:2\nlink 0-2:3\ntree share 2 links 0 2\n";
+const FROM_INPUT: [&[&str]; 8] =
+    [&["sheet"], &["fit"], &["report"], &["list"], &["overlap", "-", "1", "2"], &["picture"], &["dot"], &["export"]];
 
 #[test]
 fn lost_output_is_an_error() {
-    for subcommand in ["sheet", "fit", "report", "list", "picture", "dot", "export"] {
+    for arguments in FROM_INPUT {
         // the command reads its input, which comes when the pipe is closed, before it prints
-        let mut unread = start(&[subcommand], Stdio::piped());
+        let mut unread = start(arguments, Stdio::piped());
         drop(unread.stdout.take());
-        assert_eq!(finish(unread, TEXT), (Some(1), vec![], String::new()), "{subcommand}");
+        assert_eq!(finish(unread, TEXT), (Some(1), vec![], String::new()), "{arguments:?}");
     }
-    for subcommand in ["sheet", "fit", "report", "list", "picture", "dot", "export", "--help"] {
+    for arguments in FROM_INPUT.into_iter().chain([&["--help"][..]]) {
         let full = File::create("/dev/full").expect("a file that cannot be written");
-        let (status, _, errors) = finish(start(&[subcommand], full.into()), TEXT);
+        let (status, _, errors) = finish(start(arguments, full.into()), TEXT);
         assert_eq!((status, errors.lines().count()), (Some(1), 1), "{errors}");
         assert!(errors.starts_with("standard output: "), "{errors}");
     }

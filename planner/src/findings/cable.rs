@@ -1,5 +1,6 @@
 //! Where one new cable crosses every cut of a list.
 
+use super::cut;
 use reference::report::Side;
 use std::collections::BTreeMap;
 
@@ -30,7 +31,7 @@ pub fn crossing_all(nodes: usize, sides: &[Side]) -> Vec<Groups> {
 fn membership(node: usize, sides: &[Side]) -> Vec<u64> {
     let mut words = vec![0; sides.len().div_ceil(64)];
     for (place, side) in sides.iter().enumerate() {
-        words[place / 64] |= u64::from(side[node / 8] >> (node % 8) & 1) << (place % 64);
+        words[place / 64] |= u64::from(cut::holds(side, node)) << (place % 64);
     }
     words
 }

@@ -1,6 +1,12 @@
 //! A side of a network, and the links that cross it.
 
 use reference::network::{Link, Network};
+use reference::report::Side;
+
+/// Whether a node is in a side.
+pub fn holds(side: &Side, node: usize) -> bool {
+    side[node / 8] >> (node % 8) & 1 == 1
+}
 
 /// The numbers of the links with exactly one end in a side of the network's nodes.
 pub fn crossing(network: &Network, side: &[usize]) -> Vec<usize> {

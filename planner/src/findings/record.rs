@@ -1,11 +1,11 @@
 //! The findings as JSON; docs/REPORT.md describes the fields.
 
 use super::cable::Groups;
+use super::overlap::{Overlap, CORNERS};
 use super::{cut, Findings, Unlisted};
 use crate::json::Json;
 use crate::mistakes::Mistake;
 use crate::text::Parsed;
-use reference::cuts;
 use reference::list;
 use reference::report::Side;
 
@@ -21,7 +21,7 @@ impl Findings<'_> {
             ("tree", candidate.tree.into()),
             ("first_link", candidate.first.into()),
             ("second_link", candidate.second.into()),
-            ("none_lighter", (self.answer.verdict == cuts::WHOLE).into()),
+            ("none_lighter", self.none_lighter().into()),
             ("severed", self.node_records(&self.answer.side)),
             ("others", self.node_records(&self.rest())),
             ("crossing", self.link_records(&self.crossing)),
@@ -38,19 +38,23 @@ impl Findings<'_> {
         let mut fields = head(file, self.parsed);
         fields.extend([
             ("weight", self.weight().into()),
-            ("none_lighter", (self.unlisted() != Unlisted::Unknown).into()),
+            ("none_lighter", self.none_lighter().into()),
             ("list_complete", (self.unlisted() == Unlisted::Heavier).into()),
         ]);
         let head = Json::Record(fields).to_string();
         let start = format!("{}, \"cuts\": [", head.trim_end_matches('}'));
         let cut = |(place, side): (usize, &Side)| {
-            let nodes = list::nodes(side);
-            let crossing = cut::crossing(self.network(), &nodes);
-            let fields = vec![("severed", self.node_records(&nodes)), ("crossing", self.link_records(&crossing))];
-            format!("{}{}", if place > 0 { ", " } else { "" }, Json::Record(fields))
+            format!("{}{}", if place > 0 { ", " } else { "" }, Json::Record(self.cut_fields(side)))
         };
         let cuts = self.sides.iter().enumerate().map(cut);
         std::iter::once(start).chain(cuts).chain(std::iter::once("]}\n".to_string()))
+    }
+
+    /// The nodes of a side and the links that cross it.
+    fn cut_fields(&self, side: &Side) -> Vec<(&'static str, Json)> {
+        let nodes = list::nodes(side);
+        let crossing = cut::crossing(self.network(), &nodes);
+        vec![("severed", self.node_records(&nodes)), ("crossing", self.link_records(&crossing))]
     }
 
     fn node_record(&self, node: usize) -> Json {
@@ -77,6 +81,33 @@ impl Findings<'_> {
 
     fn groups_record(&self, Groups { from, to }: &Groups) -> Json {
         Json::Record(vec![("from", self.node_records(from)), ("to", self.node_records(to))])
+    }
+}
+
+impl Overlap<'_> {
+    /// Two cuts of the list of a file, and their corners.
+    pub fn record(&self, file: &str) -> Json {
+        let findings = self.findings;
+        let cut = |number: usize| {
+            let mut fields = vec![("number", number.into())];
+            fields.extend(findings.cut_fields(findings.side(number)));
+            Json::Record(fields)
+        };
+        let corner = |(nodes, name): (&Vec<usize>, &str)| {
+            Json::Record(vec![("corner", name.into()), ("nodes", findings.node_records(nodes))])
+        };
+        let names = CORNERS.map(|corner| corner.name);
+        let mut fields = head(file, findings.parsed);
+        fields.extend([
+            ("weight", findings.weight().into()),
+            ("none_lighter", findings.none_lighter().into()),
+            ("first_cut", cut(self.numbers[0])),
+            ("second_cut", cut(self.numbers[1])),
+            ("corners", self.corners.iter().zip(names).map(corner).collect()),
+            ("table", self.table.iter().map(|row| row.iter().copied().collect::<Json>()).collect()),
+            ("sentences", self.sentences().iter().map(String::as_str).collect()),
+        ]);
+        Json::Record(fields)
     }
 }
 

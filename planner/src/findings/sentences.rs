@@ -5,7 +5,7 @@ use super::cable::{self, Groups};
 use super::run::run_end;
 use super::{cut, Findings, Unlisted};
 use crate::names::enumeration;
-use reference::cuts::{self, Candidate};
+use reference::cuts::Candidate;
 use reference::list;
 
 impl Findings<'_> {
@@ -26,12 +26,14 @@ impl Findings<'_> {
     pub fn list_lines(&self) -> impl Iterator<Item = String> + '_ {
         let head =
             format!("{} of weight {}. {}\n", cuts_counted(self.sides.len()), self.weight(), self.unlisted_cuts());
-        let line = |(place, side): (usize, _)| {
-            let nodes = list::nodes(side);
-            let links = self.links(&cut::crossing(self.network(), &nodes));
-            format!("{}. {}; {links}\n", place + 1, self.names().node_list(&nodes))
-        };
-        std::iter::once(head).chain(self.sides.iter().enumerate().map(line))
+        std::iter::once(head).chain((1..=self.sides.len()).map(|number| self.list_line(number)))
+    }
+
+    /// The line of a cut by its number in the list.
+    pub(super) fn list_line(&self, number: usize) -> String {
+        let nodes = list::nodes(self.side(number));
+        let links = self.links(&cut::crossing(self.network(), &nodes));
+        format!("{number}. {}; {links}\n", self.names().node_list(&nodes))
     }
 
     pub(super) fn weight(&self) -> u64 {
@@ -70,7 +72,7 @@ impl Findings<'_> {
 
     /// What the answer promises about all cuts of the network.
     pub(super) fn promise(&self) -> String {
-        if self.answer.verdict == cuts::WHOLE {
+        if self.none_lighter() {
             return "No cut of the whole network weighs less.".to_string();
         }
         let lightest = "No cut that the listed trees show is lighter";
@@ -205,7 +207,7 @@ impl Findings<'_> {
 }
 
 /// `1 cut`, `6 cuts`.
-fn cuts_counted(count: usize) -> String {
+pub(super) fn cuts_counted(count: usize) -> String {
     match count {
         1 => "1 cut".to_string(),
         _ => format!("{count} cuts"),

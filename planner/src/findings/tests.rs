@@ -9,25 +9,31 @@ use reference::network::Link;
 use reference::random::Random;
 use reference::report;
 
-const RING: &str = "nodes 4\nlink 0-1:1\nlink 1-2:1\nlink 2-3:1\nlink 3-0:1\n";
+pub(super) const RING: &str = "nodes 4\nlink 0-1:1\nlink 1-2:1\nlink 2-3:1\nlink 3-0:1\n";
 
-fn parse(text: &str) -> Parsed {
+pub(super) fn parse(text: &str) -> Parsed {
     text::parse(text.as_bytes()).expect("a text without a fault")
 }
 
 /// An answer in the fields of the report program's lines.
-fn answer(verdict: u8, weight: u64, floor: u64, links: (usize, usize, Option<usize>), side: &[usize]) -> Answer {
+pub(super) fn answer(
+    verdict: u8,
+    weight: u64,
+    floor: u64,
+    links: (usize, usize, Option<usize>),
+    side: &[usize],
+) -> Answer {
     let (tree, first, second) = links;
     let candidate = Candidate { weight, nodes: side.len(), tree, first, second };
     Answer { verdict, floor, candidate, side: side.to_vec() }
 }
 
-fn bytes(sides: &[&[usize]]) -> Vec<Side> {
+pub(super) fn bytes(sides: &[&[usize]]) -> Vec<Side> {
     sides.iter().map(|nodes| report::side_bytes(nodes.iter().copied())).collect()
 }
 
 /// The findings of the reference, as the proved code has them.
-fn reference_findings(parsed: &Parsed) -> Findings<'_> {
+pub(super) fn reference_findings(parsed: &Parsed) -> Findings<'_> {
     let network = &parsed.contents.network;
     let found = Findings::new(parsed, cuts::answer(network), list::by_candidates(network).sides);
     found.expect("the network's own answer and list")
@@ -349,7 +355,7 @@ fn numbers_between(sentence: &str, from: &str, to: &str) -> Vec<u64> {
     between.split(|at: char| !at.is_ascii_digit()).filter_map(|number| number.parse().ok()).collect()
 }
 
-fn parsed(network: Network) -> Parsed {
+pub(super) fn parsed(network: Network) -> Parsed {
     let names = Names::none(network.nodes, network.links.len());
     parse(&text::write(&sheet::Contents::without_trunks(network), &names))
 }
@@ -439,6 +445,21 @@ fn what_is_said_of_other_cuts_and_new_cables_holds_for_every_side() {
     assert!(said.iter().all(|&count| count > 100), "{said:?}");
 }
 
+/// The ends of each cable that a network of so many nodes could have.
+pub(super) fn cables(nodes: usize) -> impl Iterator<Item = (usize, usize)> {
+    (1..nodes).flat_map(|second| (0..second).map(move |first| (first, second)))
+}
+
+/// The least weight of all sides of a small network, if one more link, of weight 1, has these ends.
+pub(super) fn least_with(network: &Network, (first, second): (usize, usize)) -> Option<u64> {
+    let weigh = |side: usize| {
+        let crosses = |one: usize, other: usize| (side >> one ^ side >> other) & 1 == 1;
+        let links = network.links.iter().filter(|link| crosses(link.first, link.second));
+        links.map(|link| link.weight).sum::<u64>() + u64::from(crosses(first, second))
+    };
+    (2..1_usize << network.nodes).step_by(2).map(weigh).min()
+}
+
 /// Each cable that a network could have, of weight 1, is tried: it leaves a side of the reported weight unless it is one of those that
 /// are said to cross all; and where the list is complete, each of these leaves none.
 fn assert_cables(findings: &Findings, complete: bool) {
@@ -446,20 +467,13 @@ fn assert_cables(findings: &Findings, complete: bool) {
     let weight = findings.answer.candidate.weight;
     let groups = findings.crossing_all();
     let joins = |group: &Groups, one, other| group.from.contains(&one) && group.to.contains(&other);
-    for second in 1..network.nodes {
-        for first in 0..second {
-            let said = groups.iter().any(|group| joins(group, first, second) || joins(group, second, first));
-            let weigh = |side: usize| {
-                let crosses = |one: usize, other: usize| (side >> one ^ side >> other) & 1 == 1;
-                let links = network.links.iter().filter(|link| crosses(link.first, link.second));
-                links.map(|link| link.weight).sum::<u64>() + u64::from(crosses(first, second))
-            };
-            let least = (2..1_usize << network.nodes).step_by(2).map(weigh).min();
-            if !said {
-                assert!(least <= Some(weight), "{first}-{second}: {network:?}");
-            } else if complete {
-                assert!(least > Some(weight), "{first}-{second}: {network:?}");
-            }
+    for (first, second) in cables(network.nodes) {
+        let said = groups.iter().any(|group| joins(group, first, second) || joins(group, second, first));
+        let least = least_with(network, (first, second));
+        if !said {
+            assert!(least <= Some(weight), "{first}-{second}: {network:?}");
+        } else if complete {
+            assert!(least > Some(weight), "{first}-{second}: {network:?}");
         }
     }
 }
