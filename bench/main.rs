@@ -2,11 +2,12 @@
 //! (`plain`), for a network that was read already, and whole the plain method (`before`), which weighs every pair by itself. The networks
 //! are made from a fixed seed and written as sheets. All three answer each sheet and must agree; they are timed in turns, and the best
 //! time of each counts.
-//! Then it times the entry of the list, `wcut_list`, against `wcut_report` on the same sheets.
+//! Then it times the entries of the list, `wcut_list`, and of the corners, `wcut_corners`, against `wcut_report` on the same sheets.
 //! With `--stack`, it prints instead how many bytes of stack each entry takes for longest sheets.
 
 mod answer;
 mod before;
+mod corners;
 mod lists;
 mod networks;
 mod places;
@@ -165,15 +166,16 @@ fn main() {
     match std::env::args().nth(1).as_deref() {
         None => {
             let kept = print_table();
-            exit(i32::from(!(lists::print_table() && kept)))
+            let kept = lists::print_table() && kept;
+            exit(i32::from(!(corners::print_table() && kept)))
         }
         Some("--stack") => {
             let sheets = KINDS.map(|kind| networks::sheet(LONGEST, &kind));
-            println!("stack depth {} bytes", sheets.iter().map(|sheet| stack::depth(sheet)).max().unwrap_or(0));
-            println!(
-                "list stack depth {} bytes",
-                sheets.iter().map(|sheet| stack::list_depth(sheet, lists::MOST_SIDES)).max().unwrap_or(0)
-            );
+            let deepest = |depth: &dyn Fn(&[u8]) -> usize| sheets.iter().map(|sheet| depth(sheet)).max().unwrap_or(0);
+            println!("stack depth {} bytes", deepest(&stack::depth));
+            println!("list stack depth {} bytes", deepest(&|sheet| stack::list_depth(sheet, lists::MOST_SIDES)));
+            let (first, second) = corners::sides(LONGEST.nodes);
+            println!("corners stack depth {} bytes", deepest(&|sheet| stack::corners_depth(sheet, &first, &second)));
         }
         Some(_) => {
             eprintln!("usage: bench [--stack]");
