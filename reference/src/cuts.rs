@@ -68,7 +68,7 @@ fn mark_inside(steps: &[Step], first: usize, second: Option<usize>, inside: &mut
 }
 
 /// The weight of the links that have exactly one end inside.
-fn weigh(links: &[Link], inside: &[bool]) -> u64 {
+pub fn weigh(links: &[Link], inside: &[bool]) -> u64 {
     let crossing = |link: &Link| u64::from(inside[link.first] != inside[link.second]);
     links.iter().map(|link| crossing(link) * link.weight).sum()
 }

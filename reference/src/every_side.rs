@@ -7,6 +7,7 @@ pub use complete::{check_list, Beside};
 
 use crate::cuts::{Answer, Candidate, TREES_ONLY, WHOLE};
 use crate::network::{Network, Tree};
+use crate::report::{side_bytes, Side};
 use std::cmp::Ordering;
 
 /// Networks of more nodes have too many sides to try them all.
@@ -41,6 +42,13 @@ fn side_of(nodes: &[usize]) -> u32 {
 
 fn node_count(side: u32) -> usize {
     side.count_ones() as usize
+}
+
+/// The least that any side of a network of at most [`MOST_NODES`] nodes weighs, and all sides of that weight.
+pub fn lightest(network: &Network) -> (u64, Vec<Side>) {
+    let least = sides(network).map(|side| weigh(network, side)).min().expect("a network has a side");
+    let lightest = sides(network).filter(|&side| weigh(network, side) == least);
+    (least, lightest.map(|side| side_bytes(nodes_of(network, side))).collect())
 }
 
 /// A side that a tree shows, named by the members that it crosses.

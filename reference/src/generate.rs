@@ -1,6 +1,8 @@
 //! Sound random networks of a given size, each with a feature that makes its answer hard to reckon.
 
+pub mod crossing;
 mod runs;
+pub mod sides;
 mod ties;
 mod trunks;
 mod unshown;

@@ -1,6 +1,8 @@
 //! The weakest-cut monitor a second time, written from documents 01 and 02 alone and by another method: a reader and a writer of link
 //! sheets, two ways to the answer, and what the comparison with the monitor needs.
 
+pub mod claims;
+pub mod corners;
 pub mod cuts;
 pub mod documented;
 #[cfg(feature = "archive")]

@@ -4,6 +4,7 @@
 
 use std::collections::HashMap;
 
+use crate::claims;
 use crate::cuts::{self, Candidate};
 use crate::every_side::{self, Shown};
 use crate::network::Network;
@@ -71,15 +72,11 @@ pub fn nodes(side: &Side) -> Vec<usize> {
 /// What a network's list keeps beside the reported side; the error names a claim that does not hold.
 pub fn check(List { sides: list, .. }: &List, reported: &[usize]) -> Result<(), String> {
     let nodes_in = |side: &Side| side.iter().map(|byte| byte.count_ones()).sum::<u32>();
-    let claims = [
+    claims::check([
         (list.first().is_some_and(|first| nodes(first) == reported), "the list begins with the reported side"),
         (list.iter().all(|side| side[0] & 1 == 0), "no listed side holds node 0"),
         (list.windows(2).all(|two| nodes_in(&two[0]) <= nodes_in(&two[1])), "sides of fewer nodes are listed first"),
-    ];
-    match claims.into_iter().find(|(holds, _)| !holds) {
-        None => Ok(()),
-        Some((_, claim)) => Err(claim.to_string()),
-    }
+    ])
 }
 
 #[cfg(test)]

@@ -1,5 +1,6 @@
 //! How the answer in force stands to those by the rules of units already sold, and to the list.
 
+use crate::claims::{self, Claim};
 use crate::cuts::{self, Answer, Firsts, BASE, CURRENT, LISTED, WHOLE};
 use crate::list::{self, Lightest, List};
 use crate::network::Network;
@@ -13,9 +14,6 @@ pub struct Answers {
     /// By document 01's order and its rule for the trees that count.
     pub base: Answer,
 }
-
-/// Whether it holds, and its words.
-type Claim = (bool, &'static str);
 
 impl Answers {
     /// One search finds them all.
@@ -31,10 +29,8 @@ impl Answers {
 
     /// What the requests keep of a network's answers and its list; the error names a claim that does not hold.
     pub fn check(&self, network: &Network) -> Result<(), String> {
-        match self.of_counting(network).into_iter().chain(self.of_order()).find(|(holds, _)| !holds) {
-            None => list::check(&self.list, &self.current.side),
-            Some((_, claim)) => Err(claim.to_string()),
-        }
+        claims::check(self.of_counting(network).into_iter().chain(self.of_order()))?;
+        list::check(&self.list, &self.current.side)
     }
 
     /// Request F-3: what another rule for the trees that count keeps, by one order.

@@ -1,5 +1,6 @@
 //! How the format in force stands to those before it: what request F-9 says of sheets with trunk numbers and of those without.
 
+use crate::claims::{self, Claim};
 use crate::network::Network;
 use crate::sheet::{self, Place, Reading, Refusal, BASE, HEADER_BYTES, LINK_FIELDS, TRUNK_BIT, TRUNK_BYTES, WIDE};
 
@@ -100,9 +101,6 @@ pub struct Seen {
     pub raised: bool,
 }
 
-/// Whether it holds, and its words.
-type Claim = (bool, &'static str);
-
 impl Readings {
     pub fn of(sheet: &[u8]) -> Readings {
         let plain = Some(plain(sheet)).filter(|plain| plain != sheet);
@@ -121,15 +119,13 @@ impl Readings {
         let trunk = self.comes_to(links.iter().position(Record::has_trunk), WRONG_MAP);
         let cut_off = self.comes_to(links.iter().position(Record::is_cut_off), CUT_OFF);
         let of_plain = self.plain.iter().flat_map(|plain| self.without_trunks(plain, cut_off));
-        match self.formats_before(trunk).into_iter().chain(of_plain).find(|(holds, _)| !holds) {
-            Some((_, claim)) => Err(claim.to_string()),
-            None => Ok(Seen {
-                trunk: trunk.is_some(),
-                cut_off: cut_off.is_some(),
-                as_sold: self.base == self.current,
-                raised: self.raised(),
-            }),
-        }
+        claims::check(self.formats_before(trunk).into_iter().chain(of_plain))?;
+        Ok(Seen {
+            trunk: trunk.is_some(),
+            cut_off: cut_off.is_some(),
+            as_sold: self.base == self.current,
+            raised: self.raised(),
+        })
     }
 
     /// The refusal by that number at a link, if no check before it refuses the sheet.
