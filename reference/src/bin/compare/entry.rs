@@ -1,6 +1,7 @@
-//! Calls of the C entries. Sheet, areas and count are lent between canaries.
+//! Calls of the C entries. Sheet, areas, count, side maps and table are lent between canaries.
 
-use reference::entry::{wcut_list, wcut_report};
+use reference::corners::{Table, CORNERS};
+use reference::entry::{wcut_corners, wcut_list, wcut_report};
 use reference::random::Random;
 
 const CANARIES_BEFORE: usize = 16;
@@ -22,10 +23,11 @@ impl Lent {
         Lent { bytes, length }
     }
 
-    pub fn sheet(sheet: &[u8], random: &mut Random) -> Lent {
+    /// A sheet or a side map.
+    pub fn holding(bytes: &[u8], random: &mut Random) -> Lent {
         let before = random.bytes(CANARIES_BEFORE);
         let behind = random.bytes(CANARIES_BEHIND);
-        Lent { bytes: [&before, sheet, &behind].concat(), length: sheet.len() }
+        Lent { bytes: [&before, bytes, &behind].concat(), length: bytes.len() }
     }
 
     /// The same with its first bytes replaced.
@@ -82,6 +84,34 @@ impl LentCount {
     }
 }
 
+/// A lent table of corners, with a row of canaries before it and one behind it.
+#[derive(Clone, Copy, PartialEq, Eq)]
+pub struct LentTable([[u64; CORNERS]; CORNERS + 2]);
+
+impl LentTable {
+    /// A table of any numbers.
+    pub fn any(random: &mut Random) -> LentTable {
+        LentTable([[0; CORNERS]; CORNERS + 2].map(|row| row.map(|_| random.number())))
+    }
+
+    /// The same with these numbers.
+    pub fn with(mut self, table: &Table) -> LentTable {
+        self.0[1..=CORNERS].copy_from_slice(table);
+        self
+    }
+
+    pub fn table(&self) -> Table {
+        let LentTable([_, table @ .., _]) = *self;
+        table
+    }
+
+    /// The table between its canaries.
+    pub fn show(&self) -> String {
+        let LentTable([before, table @ .., behind]) = self;
+        format!("[{before:x?}] {table:?} [{behind:x?}]")
+    }
+}
+
 pub fn hexadecimal(bytes: &[u8]) -> String {
     let bytes: Vec<String> = bytes.iter().map(|byte| format!("{byte:02x}")).collect();
     bytes.join(" ")
@@ -101,4 +131,22 @@ pub fn list(sheet: &mut Lent, sides: &mut Lent, count: &mut LentCount) -> u32 {
     let (sheet, sides) = (sheet.lent(), sides.lent());
     // SAFETY: each pointer is that of a slice with the length behind it or of a number, and none of the three overlaps another.
     unsafe { wcut_list(sheet.as_ptr(), sheet.len(), sides.as_mut_ptr(), sides.len(), &mut count.0[1]) }
+}
+
+/// The same with the entry of the corners, with a sheet and two side maps.
+pub fn corners([sheet, first, second]: &mut [Lent; 3], table: &mut LentTable) -> u32 {
+    let (sheet, first, second) = (sheet.lent(), first.lent(), second.lent());
+    let table = table.0[1..=CORNERS].as_flattened_mut();
+    // SAFETY: each pointer is that of a slice with the length behind it or of 16 numbers, and none of the four overlaps another.
+    unsafe {
+        wcut_corners(
+            sheet.as_ptr(),
+            sheet.len(),
+            first.as_ptr(),
+            first.len(),
+            second.as_ptr(),
+            second.len(),
+            table.as_mut_ptr(),
+        )
+    }
 }

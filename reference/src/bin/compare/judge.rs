@@ -1,9 +1,11 @@
 //! Holds what the entries and both programs answer against what is expected, and counts.
 
 mod complete;
+mod corners;
 mod list;
 
 pub use complete::Completeness;
+pub use corners::{Corners, LightestCrossing};
 pub use list::Lists;
 
 use std::fmt;
@@ -88,6 +90,7 @@ pub struct Row {
     /// Calls of each entry, and runs of each program.
     pub wcut_report: u64,
     pub wcut_list: u64,
+    pub wcut_corners: u64,
     pub report: u64,
     pub trunks: u64,
     /// Cases by their expected outcome.
@@ -97,7 +100,7 @@ pub struct Row {
 
 impl Row {
     pub fn calls_and_runs(&self) -> u64 {
-        self.wcut_report + self.wcut_list + self.report + self.trunks
+        self.wcut_report + self.wcut_list + self.wcut_corners + self.report + self.trunks
     }
 }
 
@@ -182,6 +185,8 @@ pub struct Judge {
     programs: Programs,
     /// For the lengths and patterns of areas, and for which sheets go through the programs too.
     random: Random,
+    /// For side maps and what is lent with them: calls of the entry of the corners leave all others as they are.
+    map_random: Random,
     pub rows: Vec<Row>,
     current_row: usize,
     pub accepted: Accepted,
@@ -198,6 +203,7 @@ pub struct Judge {
     pub before: Before,
     pub lists: Lists,
     pub completeness: Completeness,
+    pub corners: Corners,
 }
 
 impl Judge {
@@ -205,6 +211,7 @@ impl Judge {
         Judge {
             programs,
             random: Random::new(!seed),
+            map_random: Random::new(seed.rotate_left(32)),
             rows: vec![Row::default()],
             current_row: 0,
             accepted: Accepted::default(),
@@ -217,6 +224,7 @@ impl Judge {
             before: Before::default(),
             lists: Lists::default(),
             completeness: Completeness::default(),
+            corners: Corners::default(),
         }
     }
 
@@ -243,7 +251,7 @@ impl Judge {
         self.rows.iter().map(Row::calls_and_runs).sum()
     }
 
-    /// Sheets with bit 3 and lists of every kind that is counted, and answers that the order alters, have to be among the cases.
+    /// Sheets with bit 3, lists and corners of every kind that is counted, and answers that the order alters, have to be among the cases.
     pub fn saw_all(&self) -> Judged {
         let Trunked { sheets, accepted, cut_off, raised } = self.trunked;
         let Lists { several, of_several_trees, many, short, short_and_refused, .. } = self.lists;
@@ -260,7 +268,8 @@ impl Judge {
             (short, "an area that is too short for a list"),
             (short_and_refused, "a refused sheet with an area that is too short for any list"),
         ];
-        match counts.into_iter().chain(self.completeness.needed()).find(|(count, _)| *count == 0) {
+        let mut needed = counts.into_iter().chain(self.completeness.needed()).chain(self.corners.needed());
+        match needed.find(|(count, _)| *count == 0) {
             None => Ok(()),
             Some((_, lacking)) => Err(Stop::Lacks(lacking)),
         }
@@ -299,6 +308,7 @@ impl Judge {
         let report_length = self.random.between(REPORT_BYTES, LONGEST_AREA);
         self.through_report(sheet, &outcome, side_length, report_length)?;
         self.through_list(sheet, list::listed(expected))?;
+        self.through_corners(sheet, expected, &readings.current)?;
         match through {
             Through::Entries => Ok(()),
             Through::All => self.through_programs(sheet, &outcome, &readings.current, &[]),
@@ -339,10 +349,11 @@ impl Judge {
         self.through_programs(sheet, &expected, &reading, pauses)
     }
 
-    /// The entries are called with areas of all lengths from 0 on.
+    /// The entries are called with areas and side maps of all lengths from 0 on.
     pub fn all_area_lengths(&mut self, sheet: &[u8]) -> Judged {
-        let expected = sheet::read(sheet).map(|network| Answers::of(&network));
-        let outcome = report::outcome(sheet);
+        let reading = sheet::read_contents(sheet);
+        let expected = reading.as_ref().map(|contents| Answers::of(&contents.network)).map_err(|refusal| *refusal);
+        let outcome = report::outcome_of(&reading);
         for side_length in 0..=LONGEST_AREA {
             for report_length in 0..=LONGEST_AREA {
                 match area_refusal(side_length, report_length) {
@@ -352,7 +363,8 @@ impl Judge {
                 self.through_report(sheet, &outcome, side_length, report_length)?;
             }
         }
-        self.list_of_every_length(sheet, list::listed(&expected))
+        self.list_of_every_length(sheet, list::listed(&expected))?;
+        self.corners_of_every_length(sheet, &reading)
     }
 
     /// Counts a case by its expected outcome.
@@ -390,7 +402,7 @@ impl Judge {
                 0
             }
         };
-        let mut lent_sheet = Lent::sheet(sheet, &mut self.random);
+        let mut lent_sheet = Lent::holding(sheet, &mut self.random);
         let kept_sheet = lent_sheet.clone();
         let number = entry::report(&mut lent_sheet, &mut side, &mut report);
         self.row().wcut_report += 1;
@@ -430,8 +442,12 @@ impl Judge {
 
     /// Ends the comparison: the sheet has another answer than the expected one.
     pub fn differs(&self, sheet: &[u8], expected: String, got: String) -> Judged {
+        Err(self.difference(sheet, expected, got))
+    }
+
+    fn difference(&self, sheet: &[u8], expected: String, got: String) -> Stop {
         let kind = self.rows[self.current_row].kind.clone();
-        Err(Stop::Differs(Difference { kind, sheet: sheet.to_vec(), expected, got }))
+        Stop::Differs(Difference { kind, sheet: sheet.to_vec(), expected, got })
     }
 }
 

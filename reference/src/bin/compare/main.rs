@@ -1,6 +1,7 @@
 //! Compares the monitor with the second implementation: the C entries of the archive that is linked in, the report program and the cable
 //! crew's program.
 
+mod corners;
 mod entry;
 mod inputs;
 mod judge;
@@ -15,7 +16,9 @@ use std::path::PathBuf;
 use std::process::ExitCode;
 use std::time::{SystemTime, UNIX_EPOCH};
 
-use judge::{Before, Completeness, Judge, Judged, Lists, Programs, Runs, Stop, Trunked};
+use judge::{
+    Before, Completeness, Corners, Judge, Judged, LightestCrossing, Lists, Programs, Row, Runs, Stop, Trunked,
+};
 use networks::Counts;
 use reference::random::Random;
 
@@ -23,12 +26,12 @@ const USAGE: &str = "\
 usage: compare REPORT TRUNKS [--seed S] [--soak N]
 
 Sends sheets to the C entries, to the report program REPORT and to the cable crew's program TRUNKS, and holds numbers, areas,
-counts, lines and exit status against the reference's.
+counts, tables, lines and exit status against the reference's.
 Without --soak: a fixed share of every kind, one to two minutes long, with seed 1 unless --seed gives another.
 With --soak N, from 1 on: N random cases with a new seed, which is printed first; --seed S --soak N runs the same again.
 Prints how many of what kind were run. A case is a sheet with its areas or pauses; it has answers of the entries, one of each
-program, or all. The list of a sheet may be asked for with several areas. The first answer that differs is printed with its
-sheet, and ends it with status 1.";
+program, or all. The list of a sheet may be asked for with several areas, and its corners with several side maps. The first
+answer that differs is printed with its sheet, and ends it with status 1.";
 
 const FIXED_SEED: u64 = 1;
 
@@ -73,16 +76,22 @@ fn fixed_share(judge: &mut Judge, random: &mut Random) -> Judged {
     networks::at_the_limits(judge, random)?;
     shapes::of_every_kind(judge, random, 300)?;
     long_lists::of_every_size(judge, random)?;
+    corners::of_every_kind(judge, random, &corners::Counts { of_layout: 100, of_feature: 20, large: 8 })?;
     judge.saw_all()
 }
 
-fn print_table(judge: &Judge) {
-    let columns = ["wcut_report", "wcut_list", "report", "trunks", "accepted", "refused"];
-    println!("{:<44}{}", "kind", columns.map(|column| format!("{column:>12}")).concat());
-    for row in judge.rows.iter().filter(|row| row.calls_and_runs() > 0) {
-        let numbers = [row.wcut_report, row.wcut_list, row.report, row.trunks, row.accepted, row.refused];
-        println!("{:<44}{}", row.kind, numbers.map(|number| format!("{number:>12}")).concat());
+fn print_rows(rows: &[Row]) {
+    let columns = ["wcut_report", "wcut_list", "wcut_corners", "report", "trunks", "accepted", "refused"];
+    println!("{:<44}{}", "kind", columns.map(|column| format!("{column:>13}")).concat());
+    for row in rows.iter().filter(|row| row.calls_and_runs() > 0) {
+        let Row { kind, wcut_report, wcut_list, wcut_corners, report, trunks, accepted, refused } = row;
+        let numbers = [wcut_report, wcut_list, wcut_corners, report, trunks, accepted, refused];
+        println!("{kind:<44}{}", numbers.map(|number| format!("{number:>13}")).concat());
     }
+}
+
+fn print_table(judge: &Judge) {
+    print_rows(&judge.rows);
     let accepted = &judge.accepted;
     println!(
         "accepted: {} whole, {} with floor 0, {} by a pair, {} by a later tree",
@@ -103,6 +112,7 @@ fn print_table(judge: &Judge) {
     println!("another side than by their order: {same_tree} of the same tree, {other_tree} of another");
     print_lists(&judge.lists);
     print_completeness(&judge.completeness);
+    print_corners(&judge.corners);
     println!(
         "networks: {} by every side too, {} in a longer sheet than the shortest",
         judge.by_every_side, judge.longer
@@ -123,6 +133,27 @@ fn print_completeness(completeness: &Completeness) {
     println!(
         "below it: {below}, by 1: {one_below}, of these with a side missing: {one_below_missing}, with a lighter one: {one_below_lighter}"
     );
+}
+
+fn print_corners(corners: &Corners) {
+    let Corners { tables, wide, longer, with_and_without_trunks, .. } = corners;
+    let [equal, first_inside, second_inside, apart, crossing] = corners.related;
+    println!(
+        "corners: {tables} tables, {equal} of equal sides, {apart} of sides apart, {crossing} of sides that cross"
+    );
+    println!("one side inside the other: the first in {first_inside}, the second in {second_inside}");
+    println!("with a weight of more than four bytes: {wide}, with a map of more than 32 bytes: {longer}");
+    println!("with trunk numbers and without: {with_and_without_trunks}");
+    let LightestCrossing { of_layout: [rings, rings_of_rings, grids], of_others, listed } = corners.crossing;
+    println!("lightest sides that cross: {rings} of rings, {rings_of_rings} of rings of rings, {grids} of grids");
+    println!("of other small networks: {of_others}, listed with verdict 2: {listed}");
+    let Corners { short: [first, second, both], short_beside_no_side, short_and_refused, .. } = corners;
+    println!("maps refused with 1: the first in {first}, the second in {second}, both in {both}");
+    println!("beside one of no side: {short_beside_no_side}, with a refused sheet: {short_and_refused}");
+    let [first, second, both] = corners.no_side.map(|flaws| flaws.iter().sum::<u64>());
+    let Corners { refused, refused_and_no_side, .. } = corners;
+    println!("maps refused with 21: the first in {first}, the second in {second}, both in {both}");
+    println!("refused for the sheet: {refused} with maps of sides, {refused_and_no_side} with a map of no side");
 }
 
 fn main() -> ExitCode {

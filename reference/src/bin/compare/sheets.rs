@@ -25,9 +25,9 @@ pub fn documented(judge: &mut Judge) -> Judged {
     Ok(())
 }
 
-/// Areas of every length from 0 to 40, with an accepted sheet, one of each refusal, and no byte at all.
+/// Areas and side maps of every length from 0 to 40, with an accepted sheet, one of each refusal, and no byte at all.
 pub fn area_lengths(judge: &mut Judge) -> Judged {
-    judge.kind("areas of 0 to 40 bytes");
+    judge.kind("areas and side maps of 0 to 40 bytes");
     let base = &faults::bases()[1];
     judge.all_area_lengths(&documented::CASE_A)?;
     judge.all_area_lengths(&base.sheet)?;

@@ -1,11 +1,12 @@
 //! Random cases of all kinds, as many as are asked for.
 
 use reference::faults;
+use reference::generate::crossing::LAYOUTS;
 use reference::generate::FEATURES;
 use reference::random::Random;
 
 use crate::judge::{Judge, Judged, Through};
-use crate::{networks, shapes, sheets};
+use crate::{corners, networks, shapes, sheets};
 
 /// How many cases go by between two notes of progress.
 const CASES_PER_NOTE: u64 = 10_000;
@@ -13,13 +14,14 @@ const CASES_PER_NOTE: u64 = 10_000;
 /// Runs so many random cases.
 pub fn run(judge: &mut Judge, random: &mut Random, cases: u64) -> Judged {
     for case in 1..=cases {
-        match random.below(100) {
+        match random.below(105) {
             0..35 => network(judge, random)?,
             35..50 => shaped(judge, random)?,
             50..65 => single_fault(judge, random)?,
             65..80 => two_faults(judge, random)?,
             80..88 => cut(judge, random)?,
-            _ => changed_byte(judge, random)?,
+            88..100 => changed_byte(judge, random)?,
+            _ => lightest_corners(judge, random)?,
         }
         if case % CASES_PER_NOTE == 0 {
             println!("{case} of {cases}");
@@ -44,6 +46,15 @@ fn shaped(judge: &mut Judge, random: &mut Random) -> Judged {
     match random.below(100) {
         0..98 => shapes::small(judge, random, kind),
         _ => shapes::large(judge, random, kind),
+    }
+}
+
+fn lightest_corners(judge: &mut Judge, random: &mut Random) -> Judged {
+    let feature = random.pick(&FEATURES);
+    let place = random.below(LAYOUTS.len());
+    match random.once_in(2) {
+        true => corners::of_layout(judge, random, place),
+        false => corners::of_feature(judge, random, feature),
     }
 }
 

@@ -104,7 +104,7 @@ impl Judge {
             Ok(List { sides: list, .. }) => (0, list.len() as u32, sides.with_start(&list.concat())),
         };
         let expected_count = count.with(expected_count);
-        let mut lent_sheet = Lent::sheet(sheet, &mut self.random);
+        let mut lent_sheet = Lent::holding(sheet, &mut self.random);
         let kept_sheet = lent_sheet.clone();
         let number = entry::list(&mut lent_sheet, &mut sides, &mut count);
         self.row().wcut_list += 1;
