@@ -10,7 +10,8 @@ use reference::report::{self, Side, SIDE_BYTES};
 /// The time of the corners over the report's.
 const LIMIT: f64 = 0.7;
 /// Sheets on which a search has little to do.
-const SMALL: [Size; 3] = [Size::new(2, 1, 1), Size::new(2, 2048, 1), Size::new(2, 2048, 32)];
+const SMALL: [Size; 5] =
+    [Size::new(2, 1, 1), Size::new(2, 2048, 1), Size::new(2, 2048, 32), Size::new(4, 2048, 1), Size::new(16, 2048, 1)];
 
 /// Two sides of a network with so many nodes: node 1 is in both, each behind it at random in either.
 pub fn sides(nodes: usize) -> (Side, Side) {

@@ -20,7 +20,8 @@ extern "C" {
         count: *mut u32,
     ) -> u32;
 
-    /// The same of the sheet and the two maps, which are only read; the table is 16 numbers that none of them overlaps.
+    /// Each pointer to bytes has as many as the length behind it says; these are only read and may overlap. The table is 16 numbers that
+    /// none of them overlaps.
     pub fn wcut_corners(
         sheet: *const u8,
         sheet_length: usize,

@@ -25,12 +25,12 @@ pub fn of_every_kind(judge: &mut Judge, random: &mut Random, counts: &Counts) ->
     refused_sheets(judge, random)?;
     greatest_weights(judge)?;
     trunk_numbers(judge, random)?;
-    for place in 0..LAYOUTS.len() {
+    for (place, layout) in LAYOUTS.into_iter().enumerate() {
         for _ in 0..counts.of_layout {
             of_layout(judge, random, place)?;
         }
         for _ in 0..counts.large {
-            let network = crossing::network(random, LAYOUTS[place], MOST_NODES);
+            let network = crossing::network(random, layout, MOST_NODES);
             networks::judged(judge, random, network, Through::All)?;
         }
     }

@@ -133,20 +133,15 @@ pub fn list(sheet: &mut Lent, sides: &mut Lent, count: &mut LentCount) -> u32 {
     unsafe { wcut_list(sheet.as_ptr(), sheet.len(), sides.as_mut_ptr(), sides.len(), &mut count.0[1]) }
 }
 
-/// The same with the entry of the corners, with a sheet and two side maps.
-pub fn corners([sheet, first, second]: &mut [Lent; 3], table: &mut LentTable) -> u32 {
-    let (sheet, first, second) = (sheet.lent(), first.lent(), second.lent());
-    let table = table.0[1..=CORNERS].as_flattened_mut();
-    // SAFETY: each pointer is that of a slice with the length behind it or of 16 numbers, and none of the four overlaps another.
-    unsafe {
-        wcut_corners(
-            sheet.as_ptr(),
-            sheet.len(),
-            first.as_ptr(),
-            first.len(),
-            second.as_ptr(),
-            second.len(),
-            table.as_mut_ptr(),
-        )
-    }
+/// The same with the entry of the corners and two side maps, or one that is passed twice.
+pub fn corners(sheet: &mut Lent, maps: &mut [Lent], table: &mut LentTable) -> u32 {
+    let sheet = sheet.lent();
+    let last = maps.len() - 1;
+    let [(first, first_length), (second, second_length)] = [0, last].map(|place| {
+        let map = maps[place].lent();
+        (map.as_ptr(), map.len())
+    });
+    let table = table.0[1..=CORNERS].as_flattened_mut().as_mut_ptr();
+    // SAFETY: each pointer is that of a slice with the length behind it or of 16 numbers. The numbers overlap no slice.
+    unsafe { wcut_corners(sheet.as_ptr(), sheet.len(), first, first_length, second, second_length, table) }
 }

@@ -136,14 +136,14 @@ fn print_completeness(completeness: &Completeness) {
 }
 
 fn print_corners(corners: &Corners) {
-    let Corners { tables, wide, longer, with_and_without_trunks, .. } = corners;
+    let Corners { tables, wide, longer, with_and_without_trunks, passed_twice, .. } = corners;
     let [equal, first_inside, second_inside, apart, crossing] = corners.related;
     println!(
         "corners: {tables} tables, {equal} of equal sides, {apart} of sides apart, {crossing} of sides that cross"
     );
     println!("one side inside the other: the first in {first_inside}, the second in {second_inside}");
     println!("with a weight of more than four bytes: {wide}, with a map of more than 32 bytes: {longer}");
-    println!("with trunk numbers and without: {with_and_without_trunks}");
+    println!("with trunk numbers and without: {with_and_without_trunks}, with one map passed twice: {passed_twice}");
     let LightestCrossing { of_layout: [rings, rings_of_rings, grids], of_others, listed } = corners.crossing;
     println!("lightest sides that cross: {rings} of rings, {rings_of_rings} of rings of rings, {grids} of grids");
     println!("of other small networks: {of_others}, listed with verdict 2: {listed}");

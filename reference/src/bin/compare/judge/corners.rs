@@ -29,6 +29,8 @@ pub struct Corners {
     pub longer: u64,
     /// Of a sheet with trunk numbers, and of the same without.
     pub with_and_without_trunks: u64,
+    /// Calls with one map that is passed twice.
+    pub passed_twice: u64,
     pub crossing: LightestCrossing,
     /// Refused with 1: of sound sheets by the map that is too short, with the other map of no side, and of refused sheets.
     pub short: [u64; Which::ALL.len()],
@@ -112,6 +114,7 @@ impl Corners {
             (self.wide, "a weight between corners of more than four bytes"),
             (self.longer, "a side map of more than 32 bytes"),
             (self.with_and_without_trunks, "the corners of a sheet with trunk numbers and without"),
+            (self.passed_twice, "a side map that is passed twice"),
             (rings, "lightest sides of a ring that cross"),
             (rings_of_rings, "lightest sides of a ring of rings that cross"),
             (grids, "lightest sides of a grid that cross"),
@@ -238,17 +241,25 @@ impl Judge {
             Ok(told) => (0, table.with(told)),
             Err(number) => (*number, table.with(&Table::default())),
         };
-        let mut lent = [sheet, &maps[0], &maps[1]].map(|bytes| Lent::holding(bytes, random));
-        let kept = lent.clone();
-        let number = entry::corners(&mut lent, &mut table);
+        let passed = if maps[0] == maps[1] { random.between(1, 2) } else { 2 };
+        let mut lent_sheet = Lent::holding(sheet, random);
+        let mut lent_maps = maps.each_ref().map(|map| Lent::holding(map, random));
+        let (kept_sheet, kept_maps) = (lent_sheet.clone(), lent_maps.clone());
+        let number = entry::corners(&mut lent_sheet, &mut lent_maps[..passed], &mut table);
         self.row().wcut_corners += 1;
-        if number == expected_number && table == expected_table && lent == kept {
+        self.corners.passed_twice += u64::from(passed == 1);
+        let lent_kept = lent_sheet == kept_sheet && lent_maps == kept_maps;
+        if number == expected_number && table == expected_table && lent_kept {
             return Ok(table.table());
         }
         let expected = show_call(maps, expected_number, &expected_table);
         let mut got = show_call(maps, number, &table);
-        for (lent, _) in lent.iter().zip(&kept).filter(|(lent, kept)| lent != kept) {
-            got.push_str(&format!("sheet or map changed to {}\n", lent.show()));
+        if !lent_kept {
+            let [first, second] = lent_maps.map(|map| map.show());
+            got.push_str(&format!(
+                "lent bytes changed: sheet {}\nfirst map {first}\nsecond map {second}\n",
+                lent_sheet.show()
+            ));
         }
         Err(self.difference(sheet, expected, got))
     }
