@@ -2,7 +2,7 @@
 # make demo NET=file         the report of a network of yours, as text or as a cable list (NAME.csv)
 # make test                  prove and test everything; the last line is `N passed, 0 failed`
 # make soak [N=100000]       compare so many random cases with the reference; SEED=.. repeats a run
-# make bench                 the entry's time against its search alone and against the plain method, as ratios with limits
+# make bench                 the report's time against its search alone and the plain method, and the other entries' against the report's
 .PHONY: demo test soak bench
 
 N ?= 100000

@@ -49,7 +49,7 @@ fn print_row(size: Size, kind: &networks::Kind) -> f64 {
         timed(&mut corners, || corners_entry(&bytes, &first, &second));
     }
     let ratio = corners / report;
-    let Size { nodes, links, trees, .. } = size;
+    let Size { nodes, links, trees } = size;
     println!(
         "{nodes:>5} {links:>5} {trees:>5}  {:<11} {:>9.4} {:>10.4} {ratio:>14.2}",
         kind.name,

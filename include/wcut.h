@@ -51,8 +51,8 @@ extern "C" {
 
 /*
  * What the entries return: 0, or the first refusal that applies, in this order; within links and trees, record by record. A trunk number
- * is a field of its link. wcut_report returns 1 to 16, wcut_list 3 to 19, wcut_corners 1, 3 to 16 and 21. docs/REFUSALS.md has the same
- * numbers, names and words; `make test` compares them. Units already sold give 2 only below 16 bytes, and 8 to every map byte above 7.
+ * is a field of its link. wcut_report returns 1 to 16, wcut_list 3 to 16 and 19, wcut_corners 1, 3 to 16 and 21. docs/REFUSALS.md has the
+ * same numbers, names and words; `make test` compares them. Units already sold give 2 only below 16 bytes, and 8 to every map byte above 7.
  */
 #define WCUT_ACCEPTED 0
 #define WCUT_SHORT_SIDE 1    /* the side area, or a side map, has fewer than 32 bytes */
