@@ -20,30 +20,23 @@ use Rattle.sheet.specs.Bytes.{Bytes}
 use Rattle.sheet.specs.Reading.{Reading, numberOf}
 use Rattle.sheet.specs.Sheet.{current}
 use Rattle.sheet.specs.Areas.{sideRead}
+use Rattle.sheet.proofs.Cases.{header, link, tree, ring}
 use Rattle.corners.specs.Corners.{cornerSide, cornerTable}
 use Rattle.corners.specs.CornersTold.{cornerReading, noTable, tableLeft, tableRead}
 
--- ---- sheets of small numbers: a header, link records with all fields, and a tree record with a map of one byte; maps of few nodes
+-- ---- sheets of few nodes with one tree, and maps of few nodes
 
-abbrev header : ℕ → ℕ → ℕ → Bytes
-header n m t = n ∷ 0 ∷ m ∷ 0 ∷ t ∷ []
-
-abbrev link : ℕ → ℕ → ℕ → Bytes
-link x y w = 7 ∷ x ∷ 0 ∷ y ∷ 0 ∷ w ∷ 0 ∷ 0 ∷ 0 ∷ []
-
-abbrev tree : ℕ → Bytes
-tree members = 1 ∷ 0 ∷ 0 ∷ 0 ∷ members ∷ []
-
-abbrev ring : Bytes
-ring = header 4 4 1 ++ link 0 1 1 ++ link 1 2 1 ++ link 2 3 1 ++ link 3 0 1 ++ tree 7
+-- document 01's network C
+abbrev caseC : Bytes
+caseC = ring 1 ++ tree 1 7
 
 -- all links between four nodes, of six different weights
 abbrev square : Bytes
-square = header 4 6 1 ++ link 0 1 1 ++ link 1 2 2 ++ link 2 3 3 ++ link 3 0 4 ++ link 0 2 5 ++ link 1 3 6 ++ tree 7
+square = header 4 6 1 ++ link 0 1 1 ++ link 1 2 2 ++ link 2 3 3 ++ link 3 0 4 ++ link 0 2 5 ++ link 1 3 6 ++ tree 1 7
 
 -- two links of weight 0, one beside a link of weight 3
 abbrev idle : Bytes
-idle = header 3 3 1 ++ link 0 1 0 ++ link 0 2 3 ++ link 2 0 0 ++ tree 3
+idle = header 3 3 1 ++ link 0 1 0 ++ link 0 2 3 ++ link 2 0 0 ++ tree 1 3
 
 -- the 32 bytes of a map whose first byte is b
 abbrev nodes : ℕ → Bytes
@@ -73,7 +66,7 @@ crossing = (0 ∷ 2 ∷ 3 ∷ 5 ∷ []) ∷ (2 ∷ 0 ∷ 6 ∷ 1 ∷ []) ∷ (3 
 
 givens : List Given
 givens =
-    gives ring (nodes 6) (nodes 12) 0 ((0 ∷ 1 ∷ 1 ∷ 0 ∷ []) ∷ (1 ∷ 0 ∷ 0 ∷ 1 ∷ []) ∷ (1 ∷ 0 ∷ 0 ∷ 1 ∷ []) ∷ (0 ∷ 1 ∷ 1 ∷ 0 ∷ []) ∷ [])
+    gives caseC (nodes 6) (nodes 12) 0 ((0 ∷ 1 ∷ 1 ∷ 0 ∷ []) ∷ (1 ∷ 0 ∷ 0 ∷ 1 ∷ []) ∷ (1 ∷ 0 ∷ 0 ∷ 1 ∷ []) ∷ (0 ∷ 1 ∷ 1 ∷ 0 ∷ []) ∷ [])
     ∷ gives square (nodes 6) (nodes 12) 0 crossing
     ∷ gives square (nodes 12) (nodes 6) 0 ((0 ∷ 3 ∷ 2 ∷ 5 ∷ []) ∷ (3 ∷ 0 ∷ 6 ∷ 4 ∷ []) ∷ (2 ∷ 6 ∷ 0 ∷ 1 ∷ []) ∷ (5 ∷ 4 ∷ 1 ∷ 0 ∷ []) ∷ [])
     -- {1, 2} holds {2}; {1} and {3} are apart; equal sides
@@ -85,15 +78,15 @@ givens =
     ∷ gives square (nodes 6 ++ 255 ∷ []) (nodes 12 ++ 1 ∷ 7 ∷ []) 0 crossing
     -- 31 bytes, also where there is no sheet; no sheet
     ∷ gives [] (6 ∷ replicate 30 0) (nodes 12) 1 noTable
-    ∷ gives ring (nodes 6) (replicate 31 0) 1 noTable
+    ∷ gives caseC (nodes 6) (replicate 31 0) 1 noTable
     ∷ gives [] (nodes 0) (nodes 12) 3 noTable
     -- an empty side, node 0 inside, a bit from the node count up, the last bit; and after the sheet's refusals
-    ∷ gives ring (nodes 0) (nodes 12) 21 noTable
-    ∷ gives ring (nodes 6) (nodes 0) 21 noTable
-    ∷ gives ring (nodes 7) (nodes 12) 21 noTable
-    ∷ gives ring (nodes 6) (nodes 28) 21 noTable
-    ∷ gives ring (6 ∷ replicate 30 0 ++ 128 ∷ []) (nodes 12) 21 noTable
-    ∷ gives (ring ++ 0 ∷ []) (nodes 0) (nodes 12) 16 noTable
+    ∷ gives caseC (nodes 0) (nodes 12) 21 noTable
+    ∷ gives caseC (nodes 6) (nodes 0) 21 noTable
+    ∷ gives caseC (nodes 7) (nodes 12) 21 noTable
+    ∷ gives caseC (nodes 6) (nodes 28) 21 noTable
+    ∷ gives caseC (6 ∷ replicate 30 0 ++ 128 ∷ []) (nodes 12) 21 noTable
+    ∷ gives (caseC ++ 0 ∷ []) (nodes 0) (nodes 12) 16 noTable
     ∷ []
 
 givens-told : map givenOf givens ≡ givens

@@ -34,23 +34,23 @@ use Rattle.sheet.specs.Areas.{sideBytes, reportBytes, sideAfter, reportA
 -- ---- sheets of small numbers: a header, link records with all fields, without and with a trunk number, and a tree record with a map of
 -- one byte
 
-abbrev header : ℕ → ℕ → ℕ → Bytes
+abbrev pub header : ℕ → ℕ → ℕ → Bytes
 header n m t = n ∷ 0 ∷ m ∷ 0 ∷ t ∷ []
 
-abbrev link : ℕ → ℕ → ℕ → Bytes
+abbrev pub link : ℕ → ℕ → ℕ → Bytes
 link x y w = 7 ∷ x ∷ 0 ∷ y ∷ 0 ∷ w ∷ 0 ∷ 0 ∷ 0 ∷ []
 
 abbrev trunkLink : ℕ → ℕ → ℕ → ℕ → Bytes
 trunkLink x y w t = 15 ∷ x ∷ 0 ∷ y ∷ 0 ∷ w ∷ 0 ∷ 0 ∷ 0 ∷ t ∷ 0 ∷ []
 
-abbrev tree : ℕ → ℕ → Bytes
+abbrev pub tree : ℕ → ℕ → Bytes
 tree share members = share ∷ 0 ∷ 0 ∷ 0 ∷ members ∷ []
 
 -- the third link inherits the second end of the second
 abbrev triangle : Bytes
 triangle = header 3 3 1 ++ link 0 1 3 ++ link 1 2 2 ++ 5 ∷ 0 ∷ 0 ∷ 4 ∷ 0 ∷ 0 ∷ 0 ∷ []
 
-abbrev ring : ℕ → Bytes
+abbrev pub ring : ℕ → Bytes
 ring trees = header 4 4 trees ++ link 0 1 1 ++ link 1 2 1 ++ link 2 3 1 ++ link 3 0 1
 
 abbrev thickRing : Bytes
