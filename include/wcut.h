@@ -120,7 +120,7 @@ uint32_t wcut_list(const uint8_t *sheet, size_t sheet_length,
  * The caller's duties:
  *   - each pointer is not null; sheet, first and second point to as many bytes as the length behind each says, table to 16 numbers that are
  *     writable, and what these hold does not matter;
- *   - the table overlaps neither the sheet nor a map, which may overlap each other: one map may be passed twice;
+ *   - sheet, maps and table do not overlap, but one map may be passed twice;
  *   - nothing else reads or writes the table, or writes the sheet or a map, during the call;
  *   - the stack has room for WCUT_CORNERS_STACK_BYTES.
  */

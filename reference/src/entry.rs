@@ -20,8 +20,7 @@ extern "C" {
         count: *mut u32,
     ) -> u32;
 
-    /// Each pointer to bytes has as many as the length behind it says; these are only read and may overlap. The table is 16 numbers that
-    /// none of them overlaps.
+    /// The same of the sheet and the two maps, which may be one; the table is 16 numbers that none of them overlaps.
     pub fn wcut_corners(
         sheet: *const u8,
         sheet_length: usize,
