@@ -1,0 +1,3 @@
+pub mod ThicknessLaws
+pub mod ToldLaws
+pub mod Cases

@@ -1,0 +1,2 @@
+pub mod Thickness
+pub mod ThicknessTold
