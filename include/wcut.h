@@ -71,7 +71,9 @@ extern "C" {
 #define WCUT_MEMBER_COUNT 14 /* the ones in a link map are not the node count less 1 */
 #define WCUT_NOT_JOINED 15   /* the member links do not join every node to node 0 */
 #define WCUT_BYTES_LEFT 16   /* bytes follow the last tree */
+#define WCUT_NO_LINK 18      /* a link number is not below the link count */
 #define WCUT_SHORT_LIST 19   /* the area cannot hold every side of the list, at 32 bytes a side */
+#define WCUT_OUT_OF_REACH 20 /* no 4-byte weight of the link makes the reported weight as large as wanted */
 #define WCUT_NO_SIDE 21      /* a side map is empty, has node 0, or has a bit set from the node count up */
 
 /*

@@ -30,4 +30,7 @@ extern "C" {
         second_length: usize,
         table: *mut u64,
     ) -> u32;
+
+    /// The same of the sheet; the figure is a number that it does not overlap.
+    pub fn wcut_thickness(sheet: *const u8, sheet_length: usize, link: u32, wanted: u64, thickness: *mut u32) -> u32;
 }

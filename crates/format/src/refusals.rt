@@ -45,8 +45,14 @@ pub const NOT_JOINED: u32 = 15;
 // Bytes follow the last tree.
 pub const BYTES_LEFT: u32 = 16;
 
+// A link number is not below the link count.
+pub const NO_LINK: u32 = 18;
+
 // The area cannot hold every side of the list, at 32 bytes a side.
 pub const SHORT_LIST: u32 = 19;
+
+// No 4-byte weight of the link makes the reported weight as large as wanted.
+pub const OUT_OF_REACH: u32 = 20;
 
 // A side map is empty, has node 0, or has a bit set from the node count up.
 pub const NO_SIDE: u32 = 21;
