@@ -2,7 +2,8 @@
  * Calls wcut_report and wcut_list on four sheets and prints what they answer, a report in the form of the report program and then the list:
  * document 01's case A, the same sheet with one byte more, which is refused, one whose weight and floor need more than 4 bytes, and a ring
  * of four nodes, whose list has six sides and is refused when the area has room for five. Then it asks wcut_corners what runs between the
- * corners of two cuts of the ring that overlap. `make test` builds and runs this; tools/firmware has the commands.
+ * corners of two cuts of the ring that overlap, and wcut_thickness how thick the first link of case A must be. `make test` builds and runs
+ * this; tools/firmware has the commands.
  */
 #include <inttypes.h>
 #include <stdio.h>
@@ -88,6 +89,17 @@ static void show_corners(const uint8_t *sheet, size_t length, const uint8_t *fir
     }
 }
 
+static void show_thickness(const uint8_t *sheet, size_t length, uint32_t link, uint64_t wanted)
+{
+    uint32_t thickness;
+    uint32_t refusal = wcut_thickness(sheet, length, link, wanted, &thickness);
+
+    if (refusal != WCUT_ACCEPTED)
+        printf("refused %" PRIu32 "\n", refusal);
+    else
+        printf("thickness %" PRIu32 "\n", thickness);
+}
+
 static void show(const uint8_t *sheet, size_t length)
 {
     show_report(sheet, length);
@@ -130,5 +142,8 @@ int main(void)
     show_list(ring, sizeof ring, ROOM - 1);
     show_corners(ring, sizeof ring, near, far);
     show_corners(ring, sizeof ring, near, all);
+    show_thickness(sheet, sizeof sheet - 1, 0, 6); /* node 1 weighs 2 without the link, so 4 is needed; it has 3 */
+    show_thickness(sheet, sizeof sheet - 1, 0, 7); /* node 2 weighs 6 whatever the link weighs */
+    show_thickness(sheet, sizeof sheet - 1, 3, 7); /* the links are 0 to 2 */
     return 0;
 }

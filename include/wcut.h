@@ -1,10 +1,11 @@
 /*
  * The weakest-cut monitor: from a serialised network, the link sheet, to the lightest cut that crosses at most two links of some
  * listed spanning tree, and whether it is provably the lightest cut of the whole network (wcut_report); to every such cut of that weight
- * (wcut_list); and to what runs between the corners of two cuts (wcut_corners). docs/ENTRY.md has the layouts and the cost.
+ * (wcut_list); to what runs between the corners of two cuts (wcut_corners); and to the least weight of a link for a wanted weight of the
+ * lightest cut (wcut_thickness). docs/ENTRY.md has the layouts and the cost.
  *
  * Link with libmonitor.a, which is for x86-64 and its System V calling convention; it needs memset and memcpy. The entries keep no state,
- * allocate nothing, and take WCUT_STACK_BYTES, WCUT_LIST_STACK_BYTES and WCUT_CORNERS_STACK_BYTES of stack.
+ * allocate nothing, and take WCUT_STACK_BYTES, WCUT_LIST_STACK_BYTES, WCUT_CORNERS_STACK_BYTES and WCUT_THICKNESS_STACK_BYTES of stack.
  */
 #ifndef WCUT_H
 #define WCUT_H
@@ -20,9 +21,10 @@ extern "C" {
 #define WCUT_SIDE_BYTES 32       /* a side, in the side area, in a list and in a side map: node k is bit k % 8 of byte k / 8 */
 #define WCUT_REPORT_BYTES 24     /* the report area, laid out as below */
 #define WCUT_LONGEST_SHEET 30853 /* a sheet of more bytes is refused */
-#define WCUT_STACK_BYTES 45136   /* what a call takes of the stack: measured on longest sheets (tools/bench --stack), not proved */
+#define WCUT_STACK_BYTES 54960   /* what a call takes of the stack: measured on longest sheets (tools/bench --stack), not proved */
 #define WCUT_LIST_STACK_BYTES 57584 /* the same of wcut_list */
 #define WCUT_CORNERS_STACK_BYTES 17664 /* the same of wcut_corners */
+#define WCUT_THICKNESS_STACK_BYTES 45216 /* the same of wcut_thickness */
 #define WCUT_MOST_NODES 256
 #define WCUT_MOST_LINKS 2048
 #define WCUT_MOST_TREES 32
@@ -51,8 +53,9 @@ extern "C" {
 
 /*
  * What the entries return: 0, or the first refusal that applies, in this order; within links and trees, record by record. A trunk number
- * is a field of its link. wcut_report returns 1 to 16, wcut_list 3 to 16 and 19, wcut_corners 1, 3 to 16 and 21. docs/REFUSALS.md has the
- * same numbers, names and words; `make test` compares them. Units already sold give 2 only below 16 bytes, and 8 to every map byte above 7.
+ * is a field of its link. wcut_report returns 1 to 16, wcut_list 3 to 16 and 19, wcut_corners 1, 3 to 16 and 21, wcut_thickness 3 to 16,
+ * 18 and 20. docs/REFUSALS.md has the same numbers, names and words; `make test` compares them. Units already sold give 2 only below 16
+ * bytes, and 8 to every map byte above 7.
  */
 #define WCUT_ACCEPTED 0
 #define WCUT_SHORT_SIDE 1    /* the side area, or a side map, has fewer than 32 bytes */
@@ -130,6 +133,24 @@ uint32_t wcut_corners(const uint8_t *sheet, size_t sheet_length,
                       const uint8_t *first, size_t first_length,
                       const uint8_t *second, size_t second_length,
                       uint64_t table[WCUT_TABLE_NUMBERS]);
+
+/*
+ * Reads the sheet and finds the smallest weight of one link, the others kept, with which wcut_report would report no less than the wanted
+ * weight. Sets *thickness to it and returns WCUT_ACCEPTED; it may lie below the weight that the link has. Or sets *thickness to 0 and
+ * returns the number of the first refusal: the sheet's, then WCUT_NO_LINK where the sheet has no such link, then WCUT_OUT_OF_REACH where no
+ * 4-byte weight is enough: some side that crosses at most two links of some listed tree is too light and does not separate the link's ends,
+ * or more than 4,294,967,295 would be needed.
+ *
+ * The caller's duties:
+ *   - each pointer is not null; sheet points to as many bytes as the length behind it says, thickness to a number that is writable, and what
+ *     it holds does not matter;
+ *   - sheet and thickness do not overlap;
+ *   - nothing else reads or writes the thickness, or writes the sheet, during the call;
+ *   - the stack has room for WCUT_THICKNESS_STACK_BYTES.
+ */
+uint32_t wcut_thickness(const uint8_t *sheet, size_t sheet_length,
+                        uint32_t link, uint64_t wanted,
+                        uint32_t *thickness);
 
 #ifdef __cplusplus
 }
