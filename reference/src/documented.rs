@@ -1,5 +1,9 @@
-//! Document 01's networks, starred or not, the limits of documents 01 and 02, networks for requests F-3 and F-6 and sheets for request
-//! F-9. The lines of each stand in the documents or were reckoned by hand from their words.
+//! Document 01's networks, starred or not, the limits of documents 01 and 02, networks for requests F-3 and F-6, sheets for request F-9
+//! and figures for request F-7. The lines of each stand in the documents or were reckoned by hand from their words.
+
+mod thickness;
+
+pub use thickness::figures;
 
 use crate::network::{Link, Network, Tree};
 use crate::sheet::{self, Contents};

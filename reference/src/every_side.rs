@@ -18,7 +18,7 @@ fn sides(network: &Network) -> impl Iterator<Item = u32> {
     (1..1 << (network.nodes - 1)).map(|others: u32| others << 1)
 }
 
-fn crosses(network: &Network, side: u32, link: usize) -> bool {
+pub fn crosses(network: &Network, side: u32, link: usize) -> bool {
     let link = network.links[link];
     (side >> link.first ^ side >> link.second) & 1 == 1
 }

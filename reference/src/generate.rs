@@ -1,6 +1,7 @@
 //! Sound random networks of a given size, each with a feature that makes its answer hard to reckon.
 
 pub mod crossing;
+pub mod questions;
 mod runs;
 pub mod sides;
 mod ties;

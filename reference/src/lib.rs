@@ -17,4 +17,5 @@ pub mod report;
 pub mod shapes;
 pub mod sheet;
 pub mod sold;
+pub mod thickness;
 pub mod trunks;

@@ -31,7 +31,7 @@ impl Lightest {
             *self = Lightest { weight: candidate.weight, ..Lightest::default() };
         }
         if candidate.weight == self.weight {
-            let side = report::side_bytes((0..inside.len()).filter(|&node| inside[node]));
+            let side = report::side_of(inside);
             self.firsts.entry(side).and_modify(|first| *first = candidate.min(*first)).or_insert(candidate);
             self.candidates += 1;
         }

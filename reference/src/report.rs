@@ -6,6 +6,8 @@ use crate::sheet::{self, Reading, Refusal};
 pub const SIDE_BYTES: usize = 32;
 pub const REPORT_BYTES: usize = 24;
 const NO_SECOND: u16 = 65_535;
+/// Where the weight stands in the report area.
+const WEIGHT_AT: usize = 8;
 
 pub type Outcome = Result<Answer, Refusal>;
 
@@ -31,6 +33,15 @@ pub fn side_bytes(nodes: impl IntoIterator<Item = usize>) -> Side {
     bytes
 }
 
+/// The bytes of the side with the nodes that are marked as inside.
+pub fn side_of(inside: &[bool]) -> Side {
+    let mut bytes = [0; SIDE_BYTES];
+    for (byte, nodes) in bytes.iter_mut().zip(inside.chunks(8)) {
+        *byte = nodes.iter().rev().fold(0, |byte, &inside| byte << 1 | u8::from(inside));
+    }
+    bytes
+}
+
 /// The first 32 bytes of the side area.
 pub fn side_area(answer: &Answer) -> Side {
     side_bytes(answer.side.iter().copied())
@@ -46,9 +57,14 @@ pub fn report_area(answer: &Answer) -> [u8; REPORT_BYTES] {
     area[2..4].copy_from_slice(&(candidate.nodes as u16).to_le_bytes());
     area[4..6].copy_from_slice(&(candidate.first as u16).to_le_bytes());
     area[6..8].copy_from_slice(&second.to_le_bytes());
-    area[8..16].copy_from_slice(&candidate.weight.to_le_bytes());
+    area[WEIGHT_AT..WEIGHT_AT + 8].copy_from_slice(&candidate.weight.to_le_bytes());
     area[16..24].copy_from_slice(&answer.floor.to_le_bytes());
     area
+}
+
+/// The weight that a report area holds.
+pub fn weight_in(area: &[u8; REPORT_BYTES]) -> u64 {
+    sheet::number(&area[WEIGHT_AT..WEIGHT_AT + 8])
 }
 
 /// What the report program prints.
@@ -99,9 +115,13 @@ mod tests {
         let floor = [0x0D, 0x0C, 0x0B, 0x0A, 0x1D, 0x1C, 0x1B, 0x1A];
         let report = [start, weight, floor].concat();
         assert_eq!(report_area(&answer)[..], report);
+        assert_eq!(weight_in(&report_area(&answer)), answer.candidate.weight);
         let mut side = [0; 32];
         (side[0], side[1], side[31]) = (2, 0x81, 0x80);
         assert_eq!(side_area(&answer), side);
+        let inside: Vec<bool> = (0..256).map(|node| answer.side.contains(&node)).collect();
+        assert_eq!(side_of(&inside), side);
+        assert_eq!(side_of(&inside[..10]), side_bytes([1, 8]));
         answer.candidate.second = None;
         assert_eq!(report_area(&answer)[6..8], [255, 255]);
     }

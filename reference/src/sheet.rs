@@ -106,14 +106,19 @@ impl<'a> Unread<'a> {
         Some(taken)
     }
 
-    /// A number with its lowest byte first.
     fn number(&mut self, bytes: usize) -> Option<u64> {
         Some(number(self.take(bytes)?))
     }
 }
 
-fn number(bytes: &[u8]) -> u64 {
+/// A number with its lowest byte first.
+pub fn number(bytes: &[u8]) -> u64 {
     bytes.iter().rev().fold(0, |value, &byte| value * 256 + u64::from(byte))
+}
+
+/// The link count in a sheet's header, and 0 if the sheet ends there.
+pub fn link_count(sheet: &[u8]) -> usize {
+    sheet.get(2..4).map_or(0, |count| number(count) as usize)
 }
 
 /// What the panel reads: the network of a sheet in the format in force, or the first of refusals 3 to 16.

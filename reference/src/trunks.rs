@@ -51,7 +51,7 @@ struct Parts<'a> {
 
 fn parts(sheet: &[u8]) -> Parts<'_> {
     let (header, mut behind) = split(sheet, HEADER_BYTES);
-    let count = header.get(2..4).map_or(0, |count| usize::from(u16::from_le_bytes([count[0], count[1]])));
+    let count = sheet::link_count(header);
     let mut links = Vec::new();
     while links.len() < count {
         let Some((record, rest)) = Record::first(behind) else { break };

@@ -8,7 +8,7 @@ use reference::network::Network;
 use reference::random::Random;
 use reference::report::side_bytes;
 use reference::sheet::{self, Reading, MOST_LINKS, MOST_NODES, MOST_WEIGHT};
-use reference::{documented, every_side, faults, trunks};
+use reference::{documented, every_side, faults};
 
 use crate::judge::{Judge, Judged, Stop, Through};
 use crate::{networks, sheets};
@@ -116,27 +116,20 @@ fn greatest_weights(judge: &mut Judge) -> Judged {
     Ok(())
 }
 
-/// How many networks of each feature have trunk numbers.
-const WITH_TRUNKS: usize = 15;
-
 /// Sheets have the same corners with trunk numbers and without.
 fn trunk_numbers(judge: &mut Judge, random: &mut Random) -> Judged {
     judge.kind("corners: with and without trunk numbers");
-    for feature in FEATURES.into_iter().flat_map(|feature| [feature; WITH_TRUNKS]) {
-        let size = generate::random_size(random, 2, every_side::MOST_NODES, feature);
-        let network = generate::network(random, size, feature);
-        let contents = generate::with_trunks(random, network);
-        let with = sheet::write_contents(&contents);
-        let without = trunks::plain(&with);
-        let sides = sides::any(random, size.nodes);
+    let differing = sheets::with_and_without_trunks(judge, random, |judge, random, contents, sheets| {
+        let sides = sides::any(random, contents.network.nodes);
         let maps = sides::maps(random, &sides);
-        let reading = Ok(contents);
-        for sheet in [&with, &without] {
+        let reading = Ok(contents.clone());
+        for sheet in sheets {
             judge.sheet(sheet, Through::Entries)?;
             judge.corners_of(sheet, &reading, &maps)?;
         }
-        judge.corners.with_and_without_trunks += u64::from(with != without);
-    }
+        Ok(())
+    })?;
+    judge.corners.with_and_without_trunks += differing;
     Ok(())
 }
 

@@ -1,8 +1,10 @@
-//! Calls of the C entries. Sheet, areas, count, side maps and table are lent between canaries.
+//! Calls of the C entries. Sheet, areas, numbers, side maps and table are lent between canaries.
 
 use reference::corners::{Table, CORNERS};
-use reference::entry::{wcut_corners, wcut_list, wcut_report};
+use reference::entry::{wcut_corners, wcut_list, wcut_report, wcut_thickness};
 use reference::random::Random;
+use reference::report::{weight_in, REPORT_BYTES, SIDE_BYTES};
+use reference::thickness::Question;
 
 const CANARIES_BEFORE: usize = 16;
 const CANARIES_BEHIND: usize = 32;
@@ -61,26 +63,26 @@ impl Lent {
     }
 }
 
-/// A lent count, with canaries before and behind it.
+/// A lent number, a count or a figure, with canaries before and behind it.
 #[derive(Clone, Copy, PartialEq, Eq)]
-pub struct LentCount([u32; 3]);
+pub struct LentNumber([u32; 3]);
 
-impl LentCount {
-    /// A count of any value.
-    pub fn any(random: &mut Random) -> LentCount {
-        LentCount([0; 3].map(|_| random.number() as u32))
+impl LentNumber {
+    /// A number of any value.
+    pub fn any(random: &mut Random) -> LentNumber {
+        LentNumber([0; 3].map(|_| random.number() as u32))
     }
 
     /// The same with that value.
-    pub fn with(self, count: u32) -> LentCount {
-        let LentCount([before, _, behind]) = self;
-        LentCount([before, count, behind])
+    pub fn with(self, number: u32) -> LentNumber {
+        let LentNumber([before, _, behind]) = self;
+        LentNumber([before, number, behind])
     }
 
-    /// The count between its canaries.
+    /// The number between its canaries.
     pub fn show(&self) -> String {
-        let LentCount([before, count, behind]) = self;
-        format!("[{before:08x}] {count} [{behind:08x}]")
+        let LentNumber([before, number, behind]) = self;
+        format!("[{before:08x}] {number} [{behind:08x}]")
     }
 }
 
@@ -127,7 +129,7 @@ pub fn report(sheet: &mut Lent, side: &mut Lent, report: &mut Lent) -> u32 {
 }
 
 /// The same with the entry of the list.
-pub fn list(sheet: &mut Lent, sides: &mut Lent, count: &mut LentCount) -> u32 {
+pub fn list(sheet: &mut Lent, sides: &mut Lent, count: &mut LentNumber) -> u32 {
     let (sheet, sides) = (sheet.lent(), sides.lent());
     // SAFETY: each pointer is that of a slice with the length behind it or of a number, and none of the three overlaps another.
     unsafe { wcut_list(sheet.as_ptr(), sheet.len(), sides.as_mut_ptr(), sides.len(), &mut count.0[1]) }
@@ -144,4 +146,24 @@ pub fn corners(sheet: &mut Lent, maps: &mut [Lent], table: &mut LentTable) -> u3
     let table = table.0[1..=CORNERS].as_flattened_mut().as_mut_ptr();
     // SAFETY: each pointer is that of a slice with the length behind it or of 16 numbers. The numbers overlap no slice.
     unsafe { wcut_corners(sheet.as_ptr(), sheet.len(), first, first_length, second, second_length, table) }
+}
+
+/// The same with the entry of the thickness.
+pub fn thickness(sheet: &mut Lent, question: Question, figure: &mut LentNumber) -> u32 {
+    let sheet = sheet.lent();
+    // SAFETY: the first pointer is that of a slice with the length behind it, the last that of a number, which does not overlap the slice.
+    unsafe { wcut_thickness(sheet.as_ptr(), sheet.len(), question.link, question.wanted, &mut figure.0[1]) }
+}
+
+/// The weight that the entry of the report gives for a sheet, or the number of the refusal.
+pub fn reported_weight(sheet: &[u8]) -> Result<u64, u32> {
+    let (mut side, mut report) = ([0; SIDE_BYTES], [0; REPORT_BYTES]);
+    // SAFETY: each pointer is that of a slice or an array with the length behind it, and none of the three overlaps another.
+    let number = unsafe {
+        wcut_report(sheet.as_ptr(), sheet.len(), side.as_mut_ptr(), side.len(), report.as_mut_ptr(), report.len())
+    };
+    match number {
+        0 => Ok(weight_in(&report)),
+        number => Err(number),
+    }
 }

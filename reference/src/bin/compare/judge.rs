@@ -3,10 +3,12 @@
 mod complete;
 mod corners;
 mod list;
+mod thickness;
 
 pub use complete::Completeness;
 pub use corners::{Corners, LightestCrossing};
 pub use list::Lists;
+pub use thickness::{Read, Thickness};
 
 use std::fmt;
 use std::io;
@@ -91,6 +93,7 @@ pub struct Row {
     pub wcut_report: u64,
     pub wcut_list: u64,
     pub wcut_corners: u64,
+    pub wcut_thickness: u64,
     pub report: u64,
     pub trunks: u64,
     /// Cases by their expected outcome.
@@ -100,7 +103,7 @@ pub struct Row {
 
 impl Row {
     pub fn calls_and_runs(&self) -> u64 {
-        self.wcut_report + self.wcut_list + self.wcut_corners + self.report + self.trunks
+        self.wcut_report + self.wcut_list + self.wcut_corners + self.wcut_thickness + self.report + self.trunks
     }
 }
 
@@ -187,6 +190,8 @@ pub struct Judge {
     random: Random,
     /// For side maps and what is lent with them: calls of the entry of the corners leave all others as they are.
     map_random: Random,
+    /// For questions of how thick a link must be, in the same way.
+    question_random: Random,
     pub rows: Vec<Row>,
     current_row: usize,
     pub accepted: Accepted,
@@ -204,6 +209,7 @@ pub struct Judge {
     pub lists: Lists,
     pub completeness: Completeness,
     pub corners: Corners,
+    pub thickness: Thickness,
 }
 
 impl Judge {
@@ -212,6 +218,7 @@ impl Judge {
             programs,
             random: Random::new(!seed),
             map_random: Random::new(seed.rotate_left(32)),
+            question_random: Random::new(!seed.rotate_left(32)),
             rows: vec![Row::default()],
             current_row: 0,
             accepted: Accepted::default(),
@@ -225,6 +232,7 @@ impl Judge {
             lists: Lists::default(),
             completeness: Completeness::default(),
             corners: Corners::default(),
+            thickness: Thickness::default(),
         }
     }
 
@@ -251,7 +259,8 @@ impl Judge {
         self.rows.iter().map(Row::calls_and_runs).sum()
     }
 
-    /// Sheets with bit 3, lists and corners of every kind that is counted, and answers that the order alters, have to be among the cases.
+    /// Sheets with bit 3, lists, corners and figures of every kind that is counted, and answers that the order alters, have to be among the
+    /// cases.
     pub fn saw_all(&self) -> Judged {
         let Trunked { sheets, accepted, cut_off, raised } = self.trunked;
         let Lists { several, of_several_trees, many, short, short_and_refused, .. } = self.lists;
@@ -268,8 +277,8 @@ impl Judge {
             (short, "an area that is too short for a list"),
             (short_and_refused, "a refused sheet with an area that is too short for any list"),
         ];
-        let mut needed = counts.into_iter().chain(self.completeness.needed()).chain(self.corners.needed());
-        match needed.find(|(count, _)| *count == 0) {
+        let needed = counts.into_iter().chain(self.completeness.needed()).chain(self.corners.needed());
+        match needed.chain(self.thickness.counts()).find(|(count, _)| *count == 0) {
             None => Ok(()),
             Some((_, lacking)) => Err(Stop::Lacks(lacking)),
         }
@@ -309,6 +318,7 @@ impl Judge {
         self.through_report(sheet, &outcome, side_length, report_length)?;
         self.through_list(sheet, list::listed(expected))?;
         self.through_corners(sheet, expected, &readings.current)?;
+        self.through_thickness(sheet, expected, &readings.current)?;
         match through {
             Through::Entries => Ok(()),
             Through::All => self.through_programs(sheet, &outcome, &readings.current, &[]),
@@ -411,11 +421,8 @@ impl Judge {
             return Ok(());
         }
         let expected = show_call(expected_number, &expected_side, &expected_report);
-        let mut got = show_call(number, &side, &report);
-        if lent_sheet != kept_sheet {
-            got.push_str(&format!("sheet changed to {}\n", lent_sheet.show()));
-        }
-        self.differs(sheet, expected, got)
+        let got = show_call(number, &side, &report);
+        self.differs(sheet, expected, got + &show_changed(&lent_sheet, &kept_sheet))
     }
 
     /// Both programs run at the same time.
@@ -465,4 +472,12 @@ fn area_refusal(side_length: usize, report_length: usize) -> Option<u32> {
 fn show_call(number: u32, side: &Lent, report: &Lent) -> String {
     let (side, report) = (side.show(), report.show());
     format!("number {number}\nside area {side}\nreport area {report}\n")
+}
+
+/// What a lent sheet was changed to, if it was.
+fn show_changed(lent_sheet: &Lent, kept_sheet: &Lent) -> String {
+    match lent_sheet == kept_sheet {
+        true => String::new(),
+        false => format!("sheet changed to {}\n", lent_sheet.show()),
+    }
 }

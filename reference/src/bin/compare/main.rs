@@ -11,13 +11,15 @@ mod program;
 mod shapes;
 mod sheets;
 mod soak;
+mod thickness;
 
 use std::path::PathBuf;
 use std::process::ExitCode;
 use std::time::{SystemTime, UNIX_EPOCH};
 
 use judge::{
-    Before, Completeness, Corners, Judge, Judged, LightestCrossing, Lists, Programs, Row, Runs, Stop, Trunked,
+    Before, Completeness, Corners, Judge, Judged, LightestCrossing, Lists, Programs, Row, Runs, Stop, Thickness,
+    Trunked,
 };
 use networks::Counts;
 use reference::random::Random;
@@ -26,12 +28,13 @@ const USAGE: &str = "\
 usage: compare REPORT TRUNKS [--seed S] [--soak N]
 
 Sends sheets to the C entries, to the report program REPORT and to the cable crew's program TRUNKS, and holds numbers, areas,
-counts, tables, lines and exit status against the reference's.
+counts, tables, figures, lines and exit status against the reference's.
 Without --soak: a fixed share of every kind, one to two minutes long, with seed 1 unless --seed gives another.
 With --soak N, from 1 on: N random cases with a new seed, which is printed first; --seed S --soak N runs the same again.
 Prints how many of what kind were run. A case is a sheet with its areas or pauses; it has answers of the entries, one of each
-program, or all. The list of a sheet may be asked for with several areas, and its corners with several side maps. The first
-answer that differs is printed with its sheet, and ends it with status 1.";
+program, or all. The list of a sheet may be asked for with several areas, its corners with several side maps, and how thick
+its links must be with several wanted weights. The first answer that differs is printed with its sheet, and ends it with
+status 1.";
 
 const FIXED_SEED: u64 = 1;
 
@@ -77,16 +80,18 @@ fn fixed_share(judge: &mut Judge, random: &mut Random) -> Judged {
     shapes::of_every_kind(judge, random, 300)?;
     long_lists::of_every_size(judge, random)?;
     corners::of_every_kind(judge, random, &corners::Counts { of_layout: 100, of_feature: 20, large: 8 })?;
+    thickness::of_every_kind(judge, random, 12)?;
     judge.saw_all()
 }
 
 fn print_rows(rows: &[Row]) {
-    let columns = ["wcut_report", "wcut_list", "wcut_corners", "report", "trunks", "accepted", "refused"];
-    println!("{:<44}{}", "kind", columns.map(|column| format!("{column:>13}")).concat());
+    let columns =
+        ["wcut_report", "wcut_list", "wcut_corners", "wcut_thickness", "report", "trunks", "accepted", "refused"];
+    println!("{:<44}{}", "kind", columns.map(|column| format!("{column:>15}")).concat());
     for row in rows.iter().filter(|row| row.calls_and_runs() > 0) {
-        let Row { kind, wcut_report, wcut_list, wcut_corners, report, trunks, accepted, refused } = row;
-        let numbers = [wcut_report, wcut_list, wcut_corners, report, trunks, accepted, refused];
-        println!("{kind:<44}{}", numbers.map(|number| format!("{number:>13}")).concat());
+        let Row { kind, wcut_report, wcut_list, wcut_corners, wcut_thickness, report, trunks, accepted, refused } = row;
+        let numbers = [wcut_report, wcut_list, wcut_corners, wcut_thickness, report, trunks, accepted, refused];
+        println!("{kind:<44}{}", numbers.map(|number| format!("{number:>15}")).concat());
     }
 }
 
@@ -113,6 +118,7 @@ fn print_table(judge: &Judge) {
     print_lists(&judge.lists);
     print_completeness(&judge.completeness);
     print_corners(&judge.corners);
+    print_thickness(&judge.thickness);
     println!(
         "networks: {} by every side too, {} in a longer sheet than the shortest",
         judge.by_every_side, judge.longer
@@ -154,6 +160,14 @@ fn print_corners(corners: &Corners) {
     let Corners { refused, refused_and_no_side, .. } = corners;
     println!("maps refused with 21: the first in {first}, the second in {second}, both in {both}");
     println!("refused for the sheet: {refused} with maps of sides, {refused_and_no_side} with a map of no side");
+}
+
+/// A line for each kind that is counted.
+fn print_thickness(thickness: &Thickness) {
+    println!("{:<70}{:>10}", "thickness", "times");
+    for (count, kind) in thickness.counts() {
+        println!("{kind:<70}{count:>10}");
+    }
 }
 
 fn main() -> ExitCode {

@@ -1,13 +1,13 @@
 //! Fixed sheets: the documents' networks, area lengths, faults, sheets cut and with single bytes changed.
 
 use reference::faults::{self, Base, Fault};
-use reference::generate::{self, Feature, Size};
+use reference::generate::{self, Feature, Size, FEATURES};
 use reference::random::Random;
 use reference::report;
-use reference::sheet::{self, Refusal, MOST_LINKS, MOST_TREES};
-use reference::{documented, every_side};
+use reference::sheet::{self, Contents, Refusal, MOST_LINKS, MOST_TREES};
+use reference::{documented, every_side, trunks};
 
-use crate::judge::{Judge, Judged, Through};
+use crate::judge::{Judge, Judged, Stop, Through};
 
 /// The documents' networks, whose lines the reference has to give too.
 pub fn documented(judge: &mut Judge) -> Judged {
@@ -169,4 +169,27 @@ pub fn changed(random: &mut Random, sheet: &[u8]) -> Vec<u8> {
     let at = random.below(sheet.len());
     changed[at] ^= random.pick(&[1, 2, 4, 8, 16, 32, 64, 128, 255, 3, 6]);
     changed
+}
+
+/// How many networks of each feature have trunk numbers.
+const WITH_TRUNKS: usize = 15;
+
+/// Asks about small networks of every feature, each in a sheet with trunk numbers and in one without. Tells how many have two different
+/// sheets.
+pub fn with_and_without_trunks(
+    judge: &mut Judge,
+    random: &mut Random,
+    ask: impl Fn(&mut Judge, &mut Random, &Contents, [&[u8]; 2]) -> Judged,
+) -> Result<u64, Stop> {
+    let mut differing = 0;
+    for feature in FEATURES.into_iter().flat_map(|feature| [feature; WITH_TRUNKS]) {
+        let size = generate::random_size(random, 2, every_side::MOST_NODES, feature);
+        let network = generate::network(random, size, feature);
+        let contents = generate::with_trunks(random, network);
+        let with = sheet::write_contents(&contents);
+        let without = trunks::plain(&with);
+        ask(judge, random, &contents, [&with, &without])?;
+        differing += u64::from(with != without);
+    }
+    Ok(differing)
 }

@@ -6,7 +6,7 @@ use reference::generate::FEATURES;
 use reference::random::Random;
 
 use crate::judge::{Judge, Judged, Through};
-use crate::{corners, networks, shapes, sheets};
+use crate::{corners, networks, shapes, sheets, thickness};
 
 /// How many cases go by between two notes of progress.
 const CASES_PER_NOTE: u64 = 10_000;
@@ -14,14 +14,15 @@ const CASES_PER_NOTE: u64 = 10_000;
 /// Runs so many random cases.
 pub fn run(judge: &mut Judge, random: &mut Random, cases: u64) -> Judged {
     for case in 1..=cases {
-        match random.below(105) {
+        match random.below(110) {
             0..35 => network(judge, random)?,
             35..50 => shaped(judge, random)?,
             50..65 => single_fault(judge, random)?,
             65..80 => two_faults(judge, random)?,
             80..88 => cut(judge, random)?,
             88..100 => changed_byte(judge, random)?,
-            _ => lightest_corners(judge, random)?,
+            100..105 => lightest_corners(judge, random)?,
+            _ => thickness(judge, random)?,
         }
         if case % CASES_PER_NOTE == 0 {
             println!("{case} of {cases}");
@@ -56,6 +57,11 @@ fn lightest_corners(judge: &mut Judge, random: &mut Random) -> Judged {
         true => corners::of_layout(judge, random, place),
         false => corners::of_feature(judge, random, feature),
     }
+}
+
+fn thickness(judge: &mut Judge, random: &mut Random) -> Judged {
+    let feature = random.pick(&FEATURES);
+    thickness::every_link(judge, random, feature)
 }
 
 fn single_fault(judge: &mut Judge, random: &mut Random) -> Judged {

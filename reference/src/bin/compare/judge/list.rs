@@ -3,8 +3,8 @@
 use reference::list::List;
 use reference::report::SIDE_BYTES;
 
-use super::{Expected, Judge, Judged};
-use crate::entry::{self, Lent, LentCount};
+use super::{show_changed, Expected, Judge, Judged};
+use crate::entry::{self, Lent, LentNumber};
 
 /// The refusal of an area that cannot hold every side of the list.
 const SHORT_LIST: u32 = 19;
@@ -97,7 +97,7 @@ impl Judge {
     fn list_of_length(&mut self, sheet: &[u8], listed: Listed, length: usize) -> Judged {
         self.lists.count(listed, length);
         let mut sides = Lent::area(length, &mut self.random);
-        let mut count = LentCount::any(&mut self.random);
+        let mut count = LentNumber::any(&mut self.random);
         let (expected_number, expected_count, expected_sides) = match listed {
             Err(number) => (number, 0, sides.clone()),
             Ok(list) if is_short(list, length) => (SHORT_LIST, 0, sides.clone()),
@@ -113,16 +113,13 @@ impl Judge {
             return Ok(());
         }
         let expected = show_call(length, expected_number, &expected_count, &expected_sides, parts_from);
-        let mut got = show_call(length, number, &count, &sides, parts_from);
-        if lent_sheet != kept_sheet {
-            got.push_str(&format!("sheet changed to {}\n", lent_sheet.show()));
-        }
-        self.differs(sheet, expected, got)
+        let got = show_call(length, number, &count, &sides, parts_from);
+        self.differs(sheet, expected, got + &show_changed(&lent_sheet, &kept_sheet))
     }
 }
 
 /// Number and count, and the area's bytes from where they are not the expected ones.
-fn show_call(length: usize, number: u32, count: &LentCount, sides: &Lent, parts_from: Option<isize>) -> String {
+fn show_call(length: usize, number: u32, count: &LentNumber, sides: &Lent, parts_from: Option<isize>) -> String {
     let call = format!("list in an area of {length} bytes: number {number}, count {}\n", count.show());
     match parts_from {
         None => call,
