@@ -2,7 +2,8 @@
 //! (`plain`), for a network that was read already, and whole the plain method (`before`), which weighs every pair by itself. The networks
 //! are made from a fixed seed and written as sheets. All three answer each sheet and must agree; they are timed in turns, and the best
 //! time of each counts.
-//! Then it times the entries of the list, `wcut_list`, and of the corners, `wcut_corners`, against `wcut_report` on the same sheets.
+//! Then it times the entries of the list, `wcut_list`, of the corners, `wcut_corners`, and of a cable's thickness, `wcut_thickness`, against
+//! `wcut_report` on the same sheets.
 //! With `--stack`, it prints instead how many bytes of stack each entry takes for longest sheets.
 
 mod answer;
@@ -15,6 +16,7 @@ mod plain;
 mod read;
 mod rows;
 mod stack;
+mod thickness;
 
 use answer::Outcome;
 use networks::{Kind, KINDS};
@@ -165,9 +167,8 @@ fn print_table() -> bool {
 fn main() {
     match std::env::args().nth(1).as_deref() {
         None => {
-            let kept = print_table();
-            let kept = lists::print_table() && kept;
-            exit(i32::from(!(corners::print_table() && kept)))
+            let kept = [print_table(), lists::print_table(), corners::print_table(), thickness::print_table()];
+            exit(i32::from(kept.contains(&false)))
         }
         Some("--stack") => {
             let sheets = KINDS.map(|kind| networks::sheet(LONGEST, &kind));
@@ -176,6 +177,7 @@ fn main() {
             println!("list stack depth {} bytes", deepest(&|sheet| stack::list_depth(sheet, lists::MOST_SIDES)));
             let (first, second) = corners::sides(LONGEST.nodes);
             println!("corners stack depth {} bytes", deepest(&|sheet| stack::corners_depth(sheet, &first, &second)));
+            println!("thickness stack depth {} bytes", deepest(&stack::thickness_depth));
         }
         Some(_) => {
             eprintln!("usage: bench [--stack]");

@@ -1,8 +1,9 @@
 //! How deep the entries' stack goes.
 
 use crate::answer::Outcome;
-use reference::entry::{wcut_corners, wcut_list, wcut_report};
+use reference::entry::{wcut_corners, wcut_list, wcut_report, wcut_thickness};
 use reference::report::{Side, SIDE_BYTES};
+use reference::thickness::OUT_OF_REACH;
 use std::arch::asm;
 
 const PAINT: u128 = u128::MAX / 3;
@@ -81,5 +82,15 @@ pub fn corners_depth(sheet: &[u8], first: &Side, second: &Side) -> usize {
     // SAFETY: each pointer is that of a slice or an array with the length behind it, the table has 16 numbers, and no two overlap.
     let (number, depth) = unsafe { call(wcut_corners as *const () as usize, &arguments) };
     assert_eq!(number, 0);
+    depth
+}
+
+/// The stack that the thickness of a sheet's first link takes, for a weight that is out of reach.
+pub fn thickness_depth(sheet: &[u8]) -> usize {
+    let mut figure: u32 = 0;
+    let arguments = [sheet.as_ptr() as usize, sheet.len(), 0, usize::MAX, std::ptr::from_mut(&mut figure) as usize];
+    // SAFETY: the pointer to the sheet is that of a slice with the length behind it, and the figure is a number that it does not overlap.
+    let (number, depth) = unsafe { call(wcut_thickness as *const () as usize, &arguments) };
+    assert_eq!(number, OUT_OF_REACH);
     depth
 }
