@@ -1,4 +1,4 @@
-# make demo                  the reports of the networks in examples/, what they mean, lists, corners, and the way from a cable list to a picture
+# make demo                  reports of the networks in examples/, what they mean, lists, corners, a thickness, and from a cable list to a picture
 # make demo NET=file         the report of a network of yours, as text or as a cable list (NAME.csv)
 # make test                  prove and test everything; the last line is `N passed, 0 failed`
 # make soak [N=100000]       compare so many random cases with the reference; SEED=.. repeats a run

@@ -6,7 +6,7 @@ mod fields;
 mod tests;
 
 use crate::names::{self, Names};
-use crate::text::{decode, shortened, Fault};
+use crate::text::{decode, number, shortened, Fault};
 use fields::Records;
 use reference::network::{Link, Network};
 use reference::sheet::{Contents, MOST_LINKS, MOST_NODES, MOST_WEIGHT};
@@ -115,10 +115,7 @@ fn read_cable(columns: &[usize], fields: &[String]) -> Result<Cable, Vec<String>
 
 /// A capacity in digits; the error says what was expected.
 pub fn capacity(field: &str) -> Result<u64, String> {
-    let capacity = Some(field).filter(|digits| names::is_number(digits)).and_then(|digits| digits.parse().ok());
-    capacity.filter(|&capacity| capacity <= MOST_WEIGHT).ok_or_else(|| {
-        format!("expected a capacity in digits that is at most {MOST_WEIGHT}, found '{}'", shortened(field))
-    })
+    number(field, "a capacity", MOST_WEIGHT)
 }
 
 /// The cables read so far, and the faults. Where there are more cables or switches than the monitor takes, that is said once.

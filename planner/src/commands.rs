@@ -251,6 +251,21 @@ pub fn overlap(arguments: &Arguments) -> Done {
     })
 }
 
+pub fn thickness(arguments: &Arguments) -> Done {
+    let operands = arguments.operands();
+    let (link, wanted) = (argument(&operands[1])?, argument(&operands[2])?);
+    let wanted = text::number(wanted, "a wanted weight", u64::MAX)?;
+    with_findings(arguments, |name, findings| {
+        let figure = findings.figure(findings.link(link)?, wanted)?;
+        let thickness = figure.thickness()?;
+        match arguments.has("--json") {
+            true => thickness.record(name).for_each(|part| print(part.as_bytes())),
+            false => print(thickness.text().as_bytes()),
+        }
+        Ok(())
+    })
+}
+
 /// The number of a cut, as the list has it.
 fn cut_number(given: &OsStr) -> Result<usize, String> {
     let word = argument(given)?;

@@ -10,9 +10,11 @@ mod scene;
 mod sentences;
 #[cfg(test)]
 mod tests;
+mod thickness;
 
 pub use overlap::Overlap;
 pub use record::refusal;
+pub use thickness::{Figure, Thickness};
 
 use crate::names::Names;
 use crate::text::Parsed;

@@ -28,7 +28,7 @@ const CORE: Flag = Flag { name: "--core", value: Some("SWITCH") };
 const PROGRAM: Flag = Flag { name: "--program", value: Some("PROGRAM") };
 const TIES: Flag = Flag { name: "--ties", value: None };
 
-const SUBCOMMANDS: [Subcommand; 11] = [
+const SUBCOMMANDS: [Subcommand; 12] = [
     Subcommand {
         name: "import",
         operands: "[CABLES]",
@@ -69,6 +69,14 @@ const SUBCOMMANDS: [Subcommand; 11] = [
         flags: &[JSON],
         about: "shows the corners of cuts I and J of the list, the weights between them, and which of the two a cable crosses",
         run: commands::overlap,
+    },
+    Subcommand {
+        name: "thickness",
+        operands: "FILE LINK WANTED",
+        count: 3..=3,
+        flags: &[JSON],
+        about: "says how much a link, by number or name, has to weigh for the reported weight to be WANTED or more",
+        run: commands::thickness,
     },
     Subcommand {
         name: "picture",

@@ -20,14 +20,22 @@ impl Names {
 
     /// Whether the name of some node is a number.
     pub fn have_numbers(&self) -> bool {
-        self.nodes.iter().flatten().any(|name| is_number(name))
+        some_is_number(&self.nodes)
     }
 
-    /// The node that is meant by a name or, where no name is a number, by its number.
+    /// Whether the name of some link is a number.
+    pub fn links_have_numbers(&self) -> bool {
+        some_is_number(&self.links)
+    }
+
+    /// The node that is meant by a name or, where no node's name is a number, by its number.
     pub fn find_node(&self, word: &str) -> Option<usize> {
-        let named = self.nodes.iter().position(|name| name.as_deref() == Some(word));
-        let numbered = || word.parse().ok().filter(|&node| is_number(word) && node < self.nodes.len());
-        named.or_else(|| if self.have_numbers() { None } else { numbered() })
+        meant(&self.nodes, word).first().copied()
+    }
+
+    /// The links that are meant by a name, which several may have, or, where no link's name is a number, by a link's number.
+    pub fn find_links(&self, word: &str) -> Vec<usize> {
+        meant(&self.links, word)
     }
 
     /// `hall-B`, `node 3`.
@@ -57,6 +65,18 @@ impl Names {
             _ => format!("{} to {}", self.node(first), self.node(second)),
         }
     }
+}
+
+fn some_is_number(names: &[Option<String>]) -> bool {
+    names.iter().flatten().any(|name| is_number(name))
+}
+
+/// The places of a name or, where none of the names is a number, the place that has this number.
+fn meant(names: &[Option<String>], word: &str) -> Vec<usize> {
+    if is_number(word) && !some_is_number(names) {
+        return word.parse().ok().filter(|&place| place < names.len()).into_iter().collect();
+    }
+    (0..names.len()).filter(|&place| names[place].as_deref() == Some(word)).collect()
 }
 
 /// A name with single spaces; the error says why it is none.
@@ -113,6 +133,10 @@ mod tests {
         Names { nodes: nodes.iter().map(|name| name.map(str::to_string)).collect(), links: vec![] }
     }
 
+    fn links(links: &[Option<&str>]) -> Names {
+        Names { nodes: vec![], links: names(links).nodes }
+    }
+
     #[test]
     fn nodes_are_found_by_name_and_by_number() {
         let some = names(&[Some("core"), None, Some("hall B")]);
@@ -122,6 +146,24 @@ mod tests {
         assert_eq!(
             ["7", "1", "x", "0", "2"].map(|word| numbered.find_node(word)),
             [Some(0), Some(1), Some(2), None, None]
+        );
+    }
+
+    #[test]
+    fn links_are_found_by_a_name_that_several_may_have_and_by_number() {
+        let some = links(&[Some("old wire"), None, Some("radio"), Some("old wire"), Some("3 b"), Some("link 1")]);
+        let found = |names: &Names, words: &[&str]| words.iter().map(|word| names.find_links(word)).collect::<Vec<_>>();
+        assert_eq!(found(&some, &["radio", "3 b", "link 1", "1", "5", "05"]), [[2], [4], [5], [1], [5], [5]]);
+        assert_eq!(some.find_links("old wire"), [0, 3]);
+        let none: [Vec<usize>; 8] = Default::default();
+        assert_eq!(found(&some, &["wire", "6", "99999999999999999999999", "", "-1", "+1", "1 ", "Radio"]), none);
+        let numbered = links(&[Some("2"), None, Some("radio"), Some("2"), Some("5"), Some("02")]);
+        assert_eq!(found(&numbered, &["5", "02", "radio"]), [[4], [5], [2]]);
+        assert_eq!(numbered.find_links("2"), [0, 3]);
+        assert_eq!(found(&numbered, &["1", "0", "4"]), none[..3]);
+        assert_eq!(
+            [some.links_have_numbers(), numbered.links_have_numbers(), numbered.have_numbers()],
+            [false, true, false]
         );
     }
 

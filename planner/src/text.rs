@@ -6,7 +6,7 @@ mod reader;
 #[cfg(test)]
 mod tests;
 
-pub use line::{printable, shortened};
+pub use line::{number, printable, shortened};
 
 use crate::mistakes::{self, Mistake};
 use crate::names::{self, Names};

@@ -77,6 +77,15 @@ pub fn corners(sheet: &[u8], first: &Side, second: &Side) -> Said<Table> {
     }
 }
 
+/// The number that the entry of the thickness returns for a link, and the figure that it writes, which is 0 for a refusal.
+pub fn thickness(sheet: &[u8], link: u32, wanted: u64) -> (u32, u32) {
+    let mut thickness = u32::MAX;
+    // SAFETY: the pointer to bytes is that of a slice with the length behind it, and is only read; the other one is that of a number.
+    let number =
+        unsafe { entry::wcut_thickness(sheet.as_ptr(), sheet.len(), link, wanted, std::ptr::from_mut(&mut thickness)) };
+    (number, thickness)
+}
+
 /// What the report program prints for a sheet; the error says why that is no report.
 pub fn run_program(program: &OsStr, sheet: &[u8]) -> Result<Said<Answer>, String> {
     let name = program.to_string_lossy();
@@ -190,6 +199,17 @@ mod tests {
             assert_eq!(corners(&CASE_A, &side(&[1]), &side(wrong)), Err(21));
         }
         assert_eq!(corners(&CASE_A[..4], &side(&[]), &side(&[1])), Err(3));
+    }
+
+    /// Of the same triangle, whose tree has the links 0-1 and 0-2: node 1 weighs 5, node 2 weighs 6, both together 7.
+    #[test]
+    fn the_entry_of_the_thickness_is_asked() {
+        let of_0 = [0, 2, 3, 5, 6, 7].map(|wanted| thickness(&CASE_A, 0, wanted));
+        assert_eq!(of_0, [(0, 0), (0, 0), (0, 1), (0, 3), (0, 4), (20, 0)]);
+        let of_1 = [3, 4, 7, 8, u64::MAX].map(|wanted| thickness(&CASE_A, 1, wanted));
+        assert_eq!(of_1, [(0, 0), (0, 1), (0, 4), (20, 0), (20, 0)]);
+        assert_eq!([3, 256, 65_536, u32::MAX].map(|link| thickness(&CASE_A, link, 0)), [(18, 0); 4]);
+        assert_eq!(thickness(&CASE_A[..4], 3, u64::MAX), (3, 0));
     }
 
     #[test]

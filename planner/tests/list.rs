@@ -10,29 +10,17 @@ use reference::network::Network;
 use reference::report::Side;
 use reference::{every_side, list};
 use std::cmp::Ordering;
-use written::{links, names, node_list, node_name, together, Written};
+use written::{crossing, links, names, node_list, Written};
 
 fn list_of(file: &str) -> (Option<i32>, String, String) {
     let (status, printed, errors) = network(&["list", file], b"");
     (status, String::from_utf8(printed).expect("text"), errors)
 }
 
-/// The line of a list that a side of these nodes must have, and the weight of its links: those of which one end is met among the nodes.
+/// The line of a list that a side of these nodes must have, and the weight of its links.
 fn line(place: usize, nodes: &[usize], links: &[Written], names: &[Option<&str>]) -> (String, u64) {
-    let met = |link: &Written| nodes.iter().filter(|node| link.ends.contains(node)).count();
-    let crossing: Vec<(usize, &Written)> = links.iter().enumerate().filter(|(_, link)| met(link) == 1).collect();
-    let node = |node: usize| node_name(node, names);
-    let crossed = |&(number, Written { ends: [first, second], weight, name }): &(usize, &Written)| match (
-        names[*first],
-        names[*second],
-    ) {
-        (None, None) => format!("{number}{name} ({first}-{second}:{weight})"),
-        _ => format!("{number}{name} ({} to {}:{weight})", node(*first), node(*second)),
-    };
-    let word = if crossing.len() == 1 { "link" } else { "links" };
-    let crossed = together(&crossing.iter().map(crossed).collect::<Vec<_>>());
-    let severed = node_list(nodes, names);
-    (format!("{place}. {severed}; {word} {crossed}"), crossing.iter().map(|(_, link)| link.weight).sum())
+    let (crossing, weight) = crossing(nodes, links, names);
+    (format!("{place}. {}; {crossing}", node_list(nodes, names)), weight)
 }
 
 /// What the first line of a list must have behind number and weight. Small networks are looked at by every side.

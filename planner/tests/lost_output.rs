@@ -9,8 +9,18 @@ use std::process::Stdio;
 
 /// Node 1 and node 2 are two lightest cuts.
 const TEXT: &[u8] = b"nodes 3\nlink 0-1:3\nlink 1-2:2\nlink 0-2:3\ntree share 2 links 0 2\n";
-const FROM_INPUT: [&[&str]; 8] =
-    [&["sheet"], &["fit"], &["report"], &["list"], &["overlap", "-", "1", "2"], &["picture"], &["dot"], &["export"]];
+const FROM_INPUT: [&[&str]; 10] = [
+    &["sheet"],
+    &["fit"],
+    &["report"],
+    &["list"],
+    &["overlap", "-", "1", "2"],
+    &["thickness", "-", "1", "6"],
+    &["thickness", "--json", "-", "1", "7"],
+    &["picture"],
+    &["dot"],
+    &["export"],
+];
 
 #[test]
 fn lost_output_is_an_error() {

@@ -9,8 +9,8 @@ use std::process::Command;
 
 /// Document 01's case A.
 const TRIANGLE: &str = "# A triangle\nnodes 3\nlink 0-1:3\nlink 1-2:2\nlink 0-2:4\ntree share 2 links 0 2\n";
-const SUBCOMMANDS: [&str; 11] =
-    ["import", "fit", "report", "list", "overlap", "picture", "dot", "append", "export", "sheet", "text"];
+const SUBCOMMANDS: [&str; 12] =
+    ["import", "fit", "report", "list", "overlap", "thickness", "picture", "dot", "append", "export", "sheet", "text"];
 
 /// A program that takes its standard input and prints the given lines, or ends with a status. A shell writes it, so that no
 /// process of this test has it open when it is run.
@@ -48,7 +48,7 @@ fn help_is_printed_with_status_0() {
 
 #[test]
 fn arguments_that_mean_nothing_are_errors() {
-    let bad: [&[&str]; 23] = [
+    let bad: [&[&str]; 28] = [
         &[],
         &["sheets"],
         &["-h"],
@@ -68,6 +68,11 @@ fn arguments_that_mean_nothing_are_errors() {
         &["overlap", "a.net", "1", "2", "3"],
         &["overlap", "a.net", "1", "-2"],
         &["overlap", "--ties", "a.net", "1", "2"],
+        &["thickness"],
+        &["thickness", "a.net", "1"],
+        &["thickness", "a.net", "1", "2", "3"],
+        &["thickness", "a.net", "1", "-2"],
+        &["thickness", "--json=yes", "a.net", "1", "2"],
         &["append"],
         &["append", "a.net", "1", "2"],
         &["append", "a.net", "1", "2", "3", "4", "5"],
@@ -115,7 +120,8 @@ fn trunk_numbers_become_bytes_and_text_again() {
 
 #[test]
 fn a_missing_file_is_an_error() {
-    for subcommand in SUBCOMMANDS.iter().filter(|subcommand| !["append", "overlap"].contains(subcommand)) {
+    let takes_more = ["append", "overlap", "thickness"];
+    for subcommand in SUBCOMMANDS.iter().filter(|subcommand| !takes_more.contains(subcommand)) {
         let (status, printed, errors) = network(&[subcommand, "missing.net"], b"");
         assert_eq!((status, printed.len()), (Some(1), 0));
         assert!(errors.starts_with("missing.net: "), "{errors}");

@@ -3,7 +3,7 @@
 mod command;
 mod written;
 
-use command::{example, network, printed};
+use command::{accepted_examples, assert_needs_a_list, example, network, printed};
 use planner::text;
 use reference::list;
 use written::{links, names, node_list, Written};
@@ -74,11 +74,7 @@ fn listed(file: &str) -> (Vec<String>, String, String) {
 #[test]
 fn every_two_cuts_of_the_examples_have_their_corners_and_weights() {
     let mut compared = 0;
-    for entry in std::fs::read_dir(example("")).expect("examples") {
-        let file = entry.expect("a file").path().to_string_lossy().into_owned();
-        if !file.ends_with(".net") || file.contains("/refused-") {
-            continue;
-        }
+    for file in accepted_examples() {
         let text = std::fs::read_to_string(&file).expect("text");
         let sound = text::parse(text.as_bytes()).expect("a network").contents.network;
         let sides: Vec<Vec<usize>> = list::by_candidates(&sound).sides.iter().map(list::nodes).collect();
@@ -242,18 +238,7 @@ fn numbers_that_are_none_of_a_cut_are_errors() {
 
 #[test]
 fn a_network_without_a_list_has_no_overlap() {
-    let mut refused = 0;
-    for entry in std::fs::read_dir(example("")).expect("examples") {
-        let file = entry.expect("a file").path().to_string_lossy().into_owned();
-        if file.contains("/refused-") || file.ends_with("plant.csv") {
-            let listed = network(&["list", &file], b"");
-            assert_eq!(listed.0, Some(if file.contains("/refused-") { 3 } else { 1 }));
-            assert_eq!(network(&["overlap", &file, "1", "2"], b""), listed);
-            assert_eq!(network(&["overlap", "--json", &file, "1", "2"], b""), listed);
-            refused += 1;
-        }
-    }
-    assert!(refused > 5);
+    assert_needs_a_list("overlap", ["1", "2"]);
 }
 
 /// docs/REPORT.md shows all that is printed for two cuts of the ring, and the corners of two others.

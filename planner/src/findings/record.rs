@@ -2,6 +2,7 @@
 
 use super::cable::Groups;
 use super::overlap::{Overlap, CORNERS};
+use super::thickness::Thickness;
 use super::{cut, Findings, Unlisted};
 use crate::json::Json;
 use crate::mistakes::Mistake;
@@ -33,7 +34,7 @@ impl Findings<'_> {
         Json::Record(fields)
     }
 
-    /// The list of a file, in parts that follow one another, since there may be very many cuts.
+    /// The list of a file, in parts.
     pub fn list_record(&self, file: &str) -> impl Iterator<Item = String> + '_ {
         let mut fields = head(file, self.parsed);
         fields.extend([
@@ -41,12 +42,22 @@ impl Findings<'_> {
             ("none_lighter", self.none_lighter().into()),
             ("list_complete", (self.unlisted() == Unlisted::Heavier).into()),
         ]);
+        self.parts(fields, "cuts", self.sides.iter())
+    }
+
+    /// A record whose last field is a list of cuts, in parts that follow one another, since there may be very many cuts.
+    fn parts<'s>(
+        &'s self,
+        fields: Vec<(&'static str, Json)>,
+        name: &str,
+        sides: impl Iterator<Item = &'s Side> + 's,
+    ) -> impl Iterator<Item = String> + 's {
         let head = Json::Record(fields).to_string();
-        let start = format!("{}, \"cuts\": [", head.trim_end_matches('}'));
+        let start = format!("{}, \"{name}\": [", &head[..head.len() - 1]);
         let cut = |(place, side): (usize, &Side)| {
             format!("{}{}", if place > 0 { ", " } else { "" }, Json::Record(self.cut_fields(side)))
         };
-        let cuts = self.sides.iter().enumerate().map(cut);
+        let cuts = sides.enumerate().map(cut);
         std::iter::once(start).chain(cuts).chain(std::iter::once("]}\n".to_string()))
     }
 
@@ -65,18 +76,19 @@ impl Findings<'_> {
         nodes.iter().map(|&node| self.node_record(node)).collect()
     }
 
+    fn link_record(&self, link: usize) -> Json {
+        let ends = self.network().links[link];
+        Json::Record(vec![
+            ("link", link.into()),
+            ("name", self.names().links[link].as_deref().into()),
+            ("first", self.node_record(ends.first)),
+            ("second", self.node_record(ends.second)),
+            ("weight", ends.weight.into()),
+        ])
+    }
+
     fn link_records(&self, links: &[usize]) -> Json {
-        let link = |&link: &usize| {
-            let ends = self.network().links[link];
-            Json::Record(vec![
-                ("link", link.into()),
-                ("name", self.names().links[link].as_deref().into()),
-                ("first", self.node_record(ends.first)),
-                ("second", self.node_record(ends.second)),
-                ("weight", ends.weight.into()),
-            ])
-        };
-        links.iter().map(link).collect()
+        links.iter().map(|&link| self.link_record(link)).collect()
     }
 
     fn groups_record(&self, Groups { from, to }: &Groups) -> Json {
@@ -108,6 +120,24 @@ impl Overlap<'_> {
             ("sentences", self.sentences().iter().map(String::as_str).collect()),
         ]);
         Json::Record(fields)
+    }
+}
+
+impl Thickness<'_> {
+    /// How thick a link of a file has to be, in parts.
+    pub fn record(&self, file: &str) -> impl Iterator<Item = String> + '_ {
+        let (figure, then) = (self.figure, &self.then);
+        let mut fields = head(file, figure.findings.parsed);
+        fields.extend([
+            ("link", figure.findings.link_record(figure.link)),
+            ("wanted", figure.wanted.into()),
+            ("weight", figure.findings.weight().into()),
+            ("thickness", figure.weight.into()),
+            ("weight_then", then.weight().into()),
+            ("none_lighter", then.none_lighter().into()),
+            ("sentences", self.sentences().iter().map(String::as_str).collect()),
+        ]);
+        then.parts(fields, "too_light", self.too_light().into_iter())
     }
 }
 

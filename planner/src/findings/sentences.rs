@@ -46,7 +46,7 @@ impl Findings<'_> {
     }
 
     /// `link 3 (2-3:100)`, `links 3 (hall-A to hall-B:100) and 10 radio bridge (1-5:50)`.
-    fn links(&self, links: &[usize]) -> String {
+    pub(super) fn links(&self, links: &[usize]) -> String {
         let named = |&link: &usize| {
             let ends = self.network().links[link];
             format!("{} ({}:{})", self.names().link(link), self.names().ends(ends.first, ends.second), ends.weight)

@@ -152,6 +152,14 @@ fn comment_start(line: &str) -> usize {
     line.len()
 }
 
+/// A number in digits; the error says what was expected.
+pub fn number(word: &str, expected: &str, most: u64) -> Result<u64, String> {
+    let number = Some(word).filter(|digits| names::is_number(digits)).and_then(|digits| digits.parse().ok());
+    number
+        .filter(|&number| number <= most)
+        .ok_or_else(|| format!("expected {expected} in digits that is at most {most}, found '{}'", shortened(word)))
+}
+
 /// A part of a text as a fault repeats it: its start, if it is long.
 pub fn shortened(text: &str) -> String {
     match text.char_indices().nth(MOST_REPEATED) {

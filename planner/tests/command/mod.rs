@@ -41,3 +41,29 @@ pub fn printed(arguments: &[&str], input: &str) -> String {
 pub fn example(name: &str) -> String {
     Path::new(env!("CARGO_MANIFEST_DIR")).join("../examples").join(name).to_string_lossy().into_owned()
 }
+
+/// The paths of all files there.
+fn examples() -> impl Iterator<Item = String> {
+    let entries = std::fs::read_dir(example("")).expect("examples");
+    entries.map(|entry| entry.expect("a file").path().to_string_lossy().into_owned())
+}
+
+/// The paths of the networks there that the monitor accepts.
+pub fn accepted_examples() -> impl Iterator<Item = String> {
+    examples().filter(|file| file.ends_with(".net") && !file.contains("/refused-"))
+}
+
+/// Of the files there that have no list, refused networks and a cable list, a subcommand with these operands behind the file says the same
+/// as `list`.
+#[track_caller]
+pub fn assert_needs_a_list(subcommand: &str, operands: [&str; 2]) {
+    let mut refused = 0;
+    for file in examples().filter(|file| file.contains("/refused-") || file.ends_with("plant.csv")) {
+        let listed = network(&["list", &file], b"");
+        assert_eq!(listed.0, Some(if file.contains("/refused-") { 3 } else { 1 }));
+        assert_eq!(network(&[subcommand, &file, operands[0], operands[1]], b""), listed);
+        assert_eq!(network(&[subcommand, "--json", &file, operands[0], operands[1]], b""), listed);
+        refused += 1;
+    }
+    assert!(refused > 5);
+}

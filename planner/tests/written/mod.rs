@@ -52,3 +52,23 @@ pub fn node_list(nodes: &[usize], names: &[Option<&str>]) -> String {
         _ => together(&nodes.iter().map(|&node| node_name(node, names)).collect::<Vec<_>>()),
     }
 }
+
+/// The ends of a link as a sentence has them.
+pub fn ends(link: &Written, names: &[Option<&str>]) -> String {
+    let [first, second] = link.ends;
+    match (names[first], names[second]) {
+        (None, None) => format!("{first}-{second}"),
+        _ => format!("{} to {}", node_name(first, names), node_name(second, names)),
+    }
+}
+
+/// The links of which one end is met among these nodes, as a sentence has them, and their weight.
+pub fn crossing(nodes: &[usize], links: &[Written], names: &[Option<&str>]) -> (String, u64) {
+    let met = |link: &Written| nodes.iter().filter(|node| link.ends.contains(node)).count();
+    let crossing: Vec<(usize, &Written)> = links.iter().enumerate().filter(|(_, link)| met(link) == 1).collect();
+    let crossed =
+        |(number, link): &(usize, &Written)| format!("{number}{} ({}:{})", link.name, ends(link, names), link.weight);
+    let word = if crossing.len() == 1 { "link" } else { "links" };
+    let crossed = together(&crossing.iter().map(crossed).collect::<Vec<_>>());
+    (format!("{word} {crossed}"), crossing.iter().map(|(_, link)| link.weight).sum())
+}
