@@ -3,7 +3,7 @@
 use reference::generate::{self, Size};
 use reference::random::Random;
 use reference::shapes::{self, Form, Further, Shape};
-use reference::sheet::{self, ALL_FIELDS, MOST_TREES, MOST_WEIGHT};
+use reference::sheet::{self, Contents, ALL_FIELDS, MOST_TREES, MOST_WEIGHT};
 
 const SEED: u64 = 1;
 
@@ -38,6 +38,10 @@ pub fn sheet(size: Size, kind: &Kind) -> Vec<u8> {
     };
     let mut random = Random::new(SEED);
     let network = shapes::network(&mut random, size, &form);
-    let contents = generate::with_trunks(&mut random, network);
-    sheet::write_with_maps(&contents, &vec![ALL_FIELDS; size.links])
+    all_fields(&generate::with_trunks(&mut random, network))
+}
+
+/// The sheet in which every link has all fields.
+pub fn all_fields(contents: &Contents) -> Vec<u8> {
+    sheet::write_with_maps(contents, &vec![ALL_FIELDS; contents.network.links.len()])
 }

@@ -1,13 +1,13 @@
 //! Times the entry of a cable's thickness, `wcut_thickness`, against that of the report, `wcut_report`: on the same sheets, and on these
 //! with the link at 0 and at the largest weight, whose searches it makes.
 
-use crate::networks::{self, KINDS};
+use crate::networks::{self, all_fields, KINDS};
 use crate::{entry, timed, LONGEST, MIDDLE, SERIES};
 use reference::entry::wcut_thickness;
 use reference::generate::Size;
 use reference::network::{Link, Network, Tree};
 use reference::report;
-use reference::sheet::{self, Contents, ALL_FIELDS, MOST_NODES, MOST_TREES, MOST_WEIGHT};
+use reference::sheet::{self, Contents, MOST_NODES, MOST_TREES, MOST_WEIGHT};
 use reference::thickness;
 
 /// The time of the thickness over that of the sheet's report, on the networks by kind.
@@ -23,15 +23,16 @@ struct Case {
 }
 
 /// The time of the thickness over that of the report, and over that of both reports together.
-#[derive(Clone, Copy)]
 struct Ratios {
     report: f64,
     both: f64,
 }
 
 impl Ratios {
-    fn largest(self, other: Ratios) -> Ratios {
-        Ratios { report: self.report.max(other.report), both: self.both.max(other.both) }
+    /// The largest of those of some sheets, whose rows are printed.
+    fn largest(cases: impl IntoIterator<Item = Case>) -> Ratios {
+        let larger = |a: Ratios, b: Ratios| Ratios { report: a.report.max(b.report), both: a.both.max(b.both) };
+        cases.into_iter().map(print_row).fold(Ratios { report: 0.0, both: 0.0 }, larger)
     }
 }
 
@@ -42,10 +43,6 @@ fn thickness_entry(sheet: &[u8], link: usize, wanted: u64) -> (u32, u32) {
     let number =
         unsafe { wcut_thickness(sheet.as_ptr(), sheet.len(), link as u32, wanted, std::ptr::from_mut(&mut figure)) };
     (number, figure)
-}
-
-fn all_fields(contents: &Contents) -> Vec<u8> {
-    sheet::write_with_maps(contents, &vec![ALL_FIELDS; contents.network.links.len()])
 }
 
 /// The sheet with another weight of the link.
@@ -100,15 +97,13 @@ pub fn print_table() -> bool {
     println!("nodes links trees  kind        report ms both ms thickness ms thickness/report thickness/both");
     let kinds = |size: Size| KINDS.iter().map(move |kind| of_kind(size, kind));
     let series = SERIES.into_iter().map(|size| of_kind(size, &KINDS[0]));
-    let by_kind = kinds(LONGEST).chain(kinds(MIDDLE)).chain(series).map(print_row);
-    let by_kind = by_kind.fold(Ratios { report: 0.0, both: 0.0 }, Ratios::largest);
-    let leaves = [leaf(MOST_NODES, MOST_TREES), leaf(MOST_NODES, 1), leaf(40, 4)].map(print_row);
-    let all = leaves.into_iter().fold(by_kind, Ratios::largest);
+    let by_kind = Ratios::largest(kinds(LONGEST).chain(kinds(MIDDLE)).chain(series));
+    let made = Ratios::largest([leaf(MOST_NODES, MOST_TREES), leaf(MOST_NODES, 1), leaf(40, 4)]);
     let kept = |ratio: f64, limit: f64| if ratio <= limit { "" } else { ": EXCEEDED" };
-    let (report, both) = (by_kind.report, all.both);
+    let (report, both) = (by_kind.report, by_kind.both.max(made.both));
     println!(
         "thickness of a cable: largest thickness/report {report:.3} by kind, {:.3} made, limit {LIMIT:.3} by kind{}",
-        all.report,
+        made.report,
         kept(report, LIMIT)
     );
     println!("largest thickness/both {both:.3}, limit {BOTH_LIMIT:.3}{}", kept(both, BOTH_LIMIT));
