@@ -12,6 +12,7 @@ pub const TREE_COUNT: u32 = 6;
 const LINK_ENDS: u32 = 10;
 pub const MEMBER_COUNT: u32 = 14;
 const NOT_JOINED: u32 = 15;
+pub const OUT_OF_REACH: u32 = 20;
 
 /// What the refusal numbers mean, in the words of docs/REFUSALS.md and include/wcut.h. They are document 01's, with request F-2's for 2
 /// and 11, request F-9's for 8, request F-7's 18 and 20, request F-5's 19 and request F-8's for 1 and 21.
@@ -34,7 +35,7 @@ const MEANINGS: [(u32, &str); 20] = [
     (16, "bytes follow the last tree"),
     (18, "a link number is not below the link count"),
     (19, "the area cannot hold every side of the list, at 32 bytes a side"),
-    (20, "no 4-byte weight of the link makes the reported weight as large as wanted"),
+    (OUT_OF_REACH, "no 4-byte weight of the link makes the reported weight as large as wanted"),
     (21, "a side map is empty, has node 0, or has a bit set from the node count up"),
 ];
 

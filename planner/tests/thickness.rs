@@ -12,6 +12,7 @@ use reference::list;
 use reference::network::Network;
 use reference::random::Random;
 use reference::sheet::{Contents, MOST_WEIGHT};
+use reference::thickness;
 use std::collections::BTreeSet;
 use written::{crossing, ends, links, names, node_list, node_name};
 
@@ -163,14 +164,8 @@ fn a_thickness_as_json_is_a_line_with_the_same_sentences() {
     }
 }
 
-fn reweighed(network: &Network, link: usize, weight: u64) -> Network {
-    let mut changed = network.clone();
-    changed.links[link].weight = weight;
-    changed
-}
-
 fn reported(network: &Network, link: usize, weight: u64) -> u64 {
-    cuts::answer(&reweighed(network, link, weight)).candidate.weight
+    cuts::answer(&thickness::with_weight(network, link, weight)).candidate.weight
 }
 
 /// What the command says of a link of a text, held against the reference's reports of the network with every weight near the figure.
@@ -220,7 +215,7 @@ impl Held<'_> {
         for weight in figure.saturating_sub(3)..=(figure + 3).min(MOST_WEIGHT) {
             assert_eq!(reported(network, *link, weight) >= wanted, weight >= figure, "{weight}: {lines:?}");
         }
-        let answer = cuts::answer(&reweighed(network, *link, figure));
+        let answer = cuts::answer(&thickness::with_weight(network, *link, figure));
         let then = format!("With that weight the reported weight is {}. ", answer.candidate.weight);
         let promise = lines[2].strip_prefix(&then).expect(&then);
         assert_eq!(promise == "No cut of the whole network weighs less.", answer.verdict == WHOLE, "{lines:?}");
@@ -240,7 +235,7 @@ impl Held<'_> {
 
     /// What is to be said where no weight is enough, of every cut, by the list of the network with the largest weight.
     fn why_none(&self, wanted: u64) -> Vec<String> {
-        let changed = reweighed(self.network, self.link, MOST_WEIGHT);
+        let changed = thickness::with_weight(self.network, self.link, MOST_WEIGHT);
         let (mut links, names) = (links(self.text), names(self.text, changed.nodes));
         links[self.link].weight = MOST_WEIGHT;
         let [one, other] = links[self.link].ends;

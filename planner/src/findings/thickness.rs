@@ -6,14 +6,12 @@ mod tests;
 mod words;
 
 use super::{cut, find, Findings};
+use crate::mistakes::OUT_OF_REACH;
 use crate::names::{self, enumeration};
 use crate::text::{shortened, Parsed};
 use crate::unit;
 use reference::report::Side;
 use reference::sheet::{self, MOST_WEIGHT};
-
-/// The unit's number where no weight of the link is enough.
-const OUT_OF_REACH: u32 = 20;
 
 /// What the unit says of a link and a wanted weight.
 pub struct Figure<'a> {

@@ -6,6 +6,7 @@ use reference::generate::{self, FEATURES};
 use reference::list;
 use reference::network::Network;
 use reference::random::Random;
+use reference::thickness;
 use std::collections::BTreeMap;
 
 /// Node 1 weighs 5, node 2 weighs 6, and both together weigh 7.
@@ -342,9 +343,7 @@ struct Small {
 impl Small {
     /// The network with another weight for the link.
     fn with(&self, weight: u64) -> Network {
-        let mut changed = self.network.clone();
-        changed.links[self.link].weight = weight;
-        changed
+        thickness::with_weight(&self.network, self.link, weight)
     }
 
     fn present(&self) -> u64 {
