@@ -11,7 +11,8 @@ use native.Mathlib.Omega.{arith}
 use lib.ListN.{length, set, replicate, length-replicate, getD-replicate, List·getD-eq-default}
 use lib.Seq.{getD-set-same, getD-set-other}
 use lib.Pow.{pow-pos, pow-mono, pow-add, shr-shr, shr-le, shl-shr, shl-exact}
-use lib.Bits.{bitOr, bitXor, or-shr, or-mod, xor-shr, xor-mod}
+use lib.Arith.{bin-ind}
+use lib.Bits.{bitAnd, bitOr, bitXor, and-step, and-self, or-shr, or-mod, xor-shr, xor-mod}
 use lib.Count.{under, trailingZeros, ones, ones-step, ones-ones}
 use lib.Dec.{eqb}
 use borrow.Author.Tests.{eq-eqb, ne-eqb}
@@ -217,3 +218,32 @@ ones-count n w h =
     let z : ones (w / 2 ^ n) ≡ 0 = ap ones e ∙ ones-ones 0 in
     let s = ones-above w n in
     omega arith
+
+ones-double : (n : ℕ) → ones (n * 2) ≡ ones n
+ones-double n =
+    let half : n * 2 / 2 ≡ n = omega arith in
+    let step = ones-step (n * 2) in
+    let above = ap ones half in
+    omega arith
+
+-- a number and one less have its ones in common, but for the lowest
+pub ones-lowest : (n : ℕ) → (n ≡ 0 → ⊥) → ones (bitAnd n (n - 1)) + 1 ≡ ones n
+ones-lowest = bin-ind (λ (n : ℕ). (n ≡ 0 → ⊥) → ones (bitAnd n (n - 1)) + 1 ≡ ones n) (λ h. absurd (h refl)) step
+  where
+    step : (n : ℕ) → ((n / 2 ≡ 0 → ⊥) → ones (bitAnd (n / 2) (n / 2 - 1)) + 1 ≡ ones (n / 2)) → (n ≡ 0 → ⊥)
+        → ones (bitAnd n (n - 1)) + 1 ≡ ones n
+    step n r h =
+        let digits = and-step n (n - 1) in
+        let above : bitAnd n (n - 1) ≡ bitAnd (n / 2) ((n - 1) / 2) * 2 = omega arith in
+        ap (λ (x : ℕ). x + 1) (ap ones above ∙ ones-double (bitAnd (n / 2) ((n - 1) / 2))) ∙ go (ℕ-discrete (n % 2) 1)
+      where
+        go : Dec (n % 2 ≡ 1) → ones (bitAnd (n / 2) ((n - 1) / 2)) + 1 ≡ ones n
+        go (yes e) =
+            let same : (n - 1) / 2 ≡ n / 2 = omega arith in
+            let first = ones-step n in
+            rw (same, and-self (n / 2)) (omega arith)
+        go (no e) =
+            let less : (n - 1) / 2 ≡ n / 2 - 1 = omega arith in
+            let first = ones-step n in
+            let rest = r (λ z. h (omega arith)) in
+            rw less (omega arith)

@@ -13,6 +13,7 @@ use tree_ranks::Ranked;
 use tree_ranks::TABLE;
 ghost use mathlib.Core.Path.{_≡_};
 ghost use mathlib.Core.Bool.{Bool, _&&_, not};
+ghost use Prim.Native.Nat.{_+_, _≤_, min};
 ghost use lib.Dec.{leb};
 ghost use Rattle.cuts.specs.Sums.{countTo, table as flagTable};
 ghost use Rattle.cuts.specs.Network.{Network, Tree, linkCount};
@@ -79,43 +80,56 @@ fn mark_rows(
     sum_rows(rows);
 }
 
-// How many bits of a word are set.
-fn bits_set(word: u64) -> usize
-    ensures { λ r. ⌜ r ≡ countTo wordBits (wordBit word) ⌝ }
+// A count with the set bits of a word added, but no more than three.
+fn few_more(word: u64, count: usize) -> usize
+    requires { ⌜ count ≤ 3 ⌝ }
+    ensures { λ r. ⌜ r ≡ min (count + countTo wordBits (wordBit word)) 3 ⌝ }
 {
-    u64::count_ones(word) as usize
-}
-
-// How many bits are set in an odd number of four rows.
-fn odd_count(rows: &[u64; ROWS], a: usize, b: usize, c: usize, d: usize) -> usize
-    requires { ⌜ FourRows a b c d ⌝ }
-    ensures { λ r. ⌜ r ≡ oddCount (now (rows .entry)) a b c d ⌝ }
-{
-    let mut sum = 0;
-    let mut j = 0;
-    while j < ROW {
-        sum += bits_set(odd_word(rows, a, b, c, d, j));
-        j += 1;
+    let mut left = word;
+    let mut sum = count;
+    while sum < 3 {
+        if left == 0 {
+            return sum;
+        }
+        left = left & (left - 1);
+        sum += 1;
     }
     sum
 }
 
-// How many members cross the side of the cell at bit q. For the cell of one link the first row, which has no bit set,
-// stands for both rows of a second.
-fn cell_crossings(rows: &[u64; ROWS], stops: &[u16], at: &[u8], q: usize) -> usize
+// Whether at most two bits are set in an odd number of four rows.
+fn crosses_few(rows: &[u64; ROWS], a: usize, b: usize, c: usize, d: usize) -> bool
+    requires { ⌜ FourRows a b c d ⌝ }
+    ensures { λ r. ⌜ r ≡ leb (oddCount (now (rows .entry)) a b c d) 2 ⌝ }
+{
+    let mut count = 0;
+    let mut j = 0;
+    while j < ROW {
+        count = few_more(odd_word(rows, a, b, c, d, j), count);
+        if count > 2 {
+            return false;
+        }
+        j += 1;
+    }
+    true
+}
+
+// Whether at most two members cross the side of the cell at bit q. For the cell of one link the first row, which has no
+// bit set, stands for both rows of a second.
+fn cell_struck(rows: &[u64; ROWS], stops: &[u16], at: &[u8], q: usize) -> bool
     requires { ⌜ CellThere (now stops) (now at) q ⌝ }
-    ensures { λ r. ⌜ r ≡ cellCrossings (now (rows .entry)) (now (stops .entry)) (now (at .entry)) q ⌝ }
+    ensures { λ r. ⌜ r ≡ leb (cellCrossings (now (rows .entry)) (now (stops .entry)) (now (at .entry)) q) 2 ⌝ }
 {
     let first = q / MOST_NODES;
     let second = q % MOST_NODES;
     let u = at[first] as usize;
     let to = stops[u] as usize;
     if first == second {
-        return odd_count(rows, to, u, 0, 0);
+        return crosses_few(rows, to, u, 0, 0);
     }
     let v = at[second] as usize;
     let end = stops[v] as usize;
-    odd_count(rows, to, u, end, v)
+    crosses_few(rows, to, u, end, v)
 }
 
 // Turns off the bits of the cells whose sides cross at most two members.
@@ -127,7 +141,7 @@ fn strike(table: &mut [u64], rows: &[u64; ROWS], nodes: usize, stops: &[u16], at
     let end = (nodes - 1) * MOST_NODES;
     let mut q = next_bit(table, 0, end);
     while q < end {
-        if cell_crossings(rows, stops, at, q) <= 2 {
+        if cell_struck(rows, stops, at, q) {
             flip_bit(table, q);
         }
         q = next_bit(table, q + 1, end);

@@ -9,7 +9,6 @@ use mathlib.Core.List.{List}
 use native.Mathlib.Omega.{arith}
 use lib.ListN.{length}
 use lib.Dec.{leb}
-use borrow.Author.Tests.{le-leb, lt-leb}
 use Rattle.bit_table.specs.Bits.{bitOf}
 use Rattle.bit_table.specs.Cells.{tableLength, cellsEnd}
 use Rattle.tree_crossings.specs.Strikes.{cellCrossings}
@@ -53,8 +52,8 @@ loop-holds c =
     let s = c .before .before .before .before .before in
     (s .pre .table-room, n .up-to, n .is-set, struck-start (light s) (s .args .table .now) _ _ n)
 
-cell-crossings-requires : tie.Need-cell-crossings-requires Inv-loop μ-loop
-cell-crossings-requires c κs =
+cell-struck-requires : tie.Need-cell-struck-requires Inv-loop μ-loop
+cell-struck-requires c κs =
     let p = start (c .before) .pre in
     record { held = p .held; cell = omega (arith, p .few-nodes, c .loop-test .taken) }
 
@@ -81,16 +80,15 @@ loop-again c =
     let l = i .before .before .loop in
     let s = start (i .before .before) in
     let old = s .args .table .now in
-    let same : leb (i .cell-crossings .result) 2 ≡ light s (l .q) = ap (λ (x : ℕ). leb x 2) (i .cell-crossings .ensures) in
     let now = c .before .before .if1 .table in (
       joined (c .before .before),
       n .up-to,
       n .is-set,
       ⊎-elim
-          (λ w. struck-on (light s) old (l .q) (l .table) (l .inv .3) now _ _ (sym same ∙ le-leb (i .cell-crossings .result) 2 (w .0 .taken))
+          (λ w. struck-on (light s) old (l .q) (l .table) (l .inv .3) now _ _ (sym (i .cell-struck .ensures) ∙ w .0 .taken)
           (l .inv .2 (i .before .loop-test .taken)) (λ k. ap (λ (t : List ℕ). bitOf t k) (w .5) ∙ w .2 .ensures k) n)
           (λ w. kept-on (light s) old (l .q) now (subst (StruckTo (light s) old (l .q)) (sym (w .1)) (l .inv .3)) _ _
-          (sym same ∙ lt-leb (i .cell-crossings .result) 2 (w .0 .left)) n)
+          (sym (i .cell-struck .ensures) ∙ w .0 .left) n)
           (c .before .before .if1 .came),
     )
 
@@ -114,7 +112,7 @@ strike-spec =
     mul-end
     next-bit-requires
     loop-holds
-    cell-crossings-requires
+    cell-struck-requires
     flip-bit-requires
     add-next-bit
     next-bit-requires-2

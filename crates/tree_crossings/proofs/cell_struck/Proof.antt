@@ -1,4 +1,4 @@
--- `tree_crossings::cell_crossings` meets its contract: a cell of one link has the other place's rows both as the first, which cancel.
+-- `tree_crossings::cell_struck` meets its contract: a cell of one link has the other place's rows both as the first, which cancel.
 -- Assumes nothing.
 use Prim.Native.Nat.{_/_, _%_}
 use mathlib.Core.Path.{_∙_}
@@ -8,8 +8,8 @@ use borrow.Author.Tests.{eq-eqb, ne-eqb}
 use Rattle.cuts.specs.Limits.{mostNodes}
 use Rattle.arrays.specs.Lists.{entry}
 use Rattle.tree_crossings.specs.Strikes.{sideCrossings}
-use Rattle.tree_crossings.proofs.cell_crossings.Statement.{statement}
-use Rattle.tree_crossings.proofs.cell_crossings.Tie as tie
+use Rattle.tree_crossings.proofs.cell_struck.Statement.{statement}
+use Rattle.tree_crossings.proofs.cell_struck.Tie as tie
 
 shared-slice-read-u : tie.Need-shared-slice-read-u
 shared-slice-read-u c = search needs
@@ -26,8 +26,8 @@ shared-slice-read-to c = let a = c .before .before .before .before .args in omeg
 cast-to : tie.Need-cast-to
 cast-to c = let a = c .before .before .before .before .args in omega (arith, c .shared-slice-known4 .given (entry (a .at .now) (a .q / mostNodes)))
 
-odd-count-requires : tie.Need-odd-count-requires
-odd-count-requires c κs =
+crosses-few-requires : tie.Need-crosses-few-requires
+crosses-few-requires c κs =
     let s = c .before .before .before .before .before in
     let a = s .args in
     let small = c .before .before .shared-slice-known3 .given (a .q / mostNodes) in
@@ -42,7 +42,7 @@ returns : tie.Need-returns
 unfolding sideCrossings
 returns c =
     let a = c .before .before .before .before .before .before .args in
-    c .odd-count .ensures ∙ rw (eq-eqb (a .q / mostNodes) (a .q % mostNodes) (c .before .if1 .taken))
+    c .crosses-few .ensures ∙ rw (eq-eqb (a .q / mostNodes) (a .q % mostNodes) (c .before .if1 .taken))
 
 shared-slice-read-v : tie.Need-shared-slice-read-v
 shared-slice-read-v c = search needs
@@ -63,8 +63,8 @@ cast-end c =
     let a = c .before .before .before .before .before .before .before .args in
     omega (arith, c .shared-slice-known6 .given (entry (a .at .now) (a .q % mostNodes)))
 
-odd-count-requires-2 : tie.Need-odd-count-requires-2
-odd-count-requires-2 c κs =
+crosses-few-requires-2 : tie.Need-crosses-few-requires-2
+crosses-few-requires-2 c κs =
     let s = c .before .before .before .before .before .before .before in
     let a = s .args in
     let small = c .before .before .before .before .shared-slice-known3 .given (a .q / mostNodes) in
@@ -80,10 +80,10 @@ returns-2 : tie.Need-returns-2
 unfolding sideCrossings
 returns-2 c =
     let a = c .before .before .before .before .before .before .before .before .args in
-    c .odd-count2 .ensures ∙ rw (ne-eqb (a .q / mostNodes) (a .q % mostNodes) (c .before .before .before .if1 .left))
+    c .crosses-few2 .ensures ∙ rw (ne-eqb (a .q / mostNodes) (a .q % mostNodes) (c .before .before .before .if1 .left))
 
-pub cell-crossings-spec : {M : Type 1} → statement M
-cell-crossings-spec =
+pub cell-struck-spec : {M : Type 1} → statement M
+cell-struck-spec =
     tie.close
     (tie.spec
     shared-slice-read-u
@@ -91,12 +91,12 @@ cell-crossings-spec =
     mul-to
     shared-slice-read-to
     cast-to
-    odd-count-requires
+    crosses-few-requires
     returns
     shared-slice-read-v
     cast-v
     mul-end
     shared-slice-read-end
     cast-end
-    odd-count-requires-2
+    crosses-few-requires-2
     returns-2)
