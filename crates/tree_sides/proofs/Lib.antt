@@ -1,2 +1,3 @@
 pub mod SideLaws
 pub mod CountLaws
+pub mod NodeLaws

@@ -1,1 +1,2 @@
 pub mod Sides
+pub mod NodeRows

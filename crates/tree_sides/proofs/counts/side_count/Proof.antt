@@ -1,7 +1,7 @@
 -- `tree_sides::counts::side_count` meets its contract: two places name the same links in either order. Assumes nothing.
 use borrow.Author.Needs.{needs}
 use Prim.Native.Nat.{ℕ, min, max}
-use mathlib.Core.Path.{_≡_, sym, ap, ap₂, _∙_}
+use mathlib.Core.Path.{_≡_, ap, ap₂, _∙_}
 use mathlib.Core.List.{List}
 use native.Mathlib.Omega.{arith}
 use Rattle.cuts.specs.Network.{Network, Tree}
