@@ -1,1 +1,2 @@
 pub mod ReportFields
+pub mod SideSlots

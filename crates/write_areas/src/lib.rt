@@ -3,8 +3,9 @@ use format::limits::MOST_NODES;
 use format::limits::SIDE_LENGTH;
 use format::numbers::put_eight;
 use format::numbers::put_two;
+use tree_sides::SIDE_WORDS;
 ghost use mathlib.Core.Path.{_≡_};
-ghost use Prim.Native.Nat.{_+_, _≤_};
+ghost use Prim.Native.Nat.{suc, _+_, _*_, _≤_};
 ghost use lib.ListN.{length};
 ghost use Rattle.cuts.specs.Network.{flag};
 ghost use Rattle.cuts.specs.Cut.{Side};
@@ -13,7 +14,9 @@ ghost use Rattle.arrays.specs.Marks.{marks};
 ghost use Rattle.sheet.specs.Bytes.{byteOf, fieldBytes};
 ghost use Rattle.sheet.specs.Sheet.{current};
 ghost use Rattle.sheet.specs.Areas.{sideLength, sideBytes, reportWidths, reportLength, written};
+ghost use Rattle.tree_sides.specs.NodeRows.{SideWords};
 ghost use Rattle.write_areas.specs.ReportFields.{valuesOf};
+ghost use Rattle.write_areas.specs.SideSlots.{putSide};
 
 // What a report has for the second link of a single one.
 pub const NO_SECOND: u16 = 65535;
@@ -55,6 +58,18 @@ pub fn write_side(area: &mut [u8], side: &[u8; MOST_NODES])
         area[j] = packed(side, 8 * j);
         j += 1;
     }
+}
+
+// Writes a side, given as words, to the 32 bytes of a slot: node k is bit k mod 8 of byte k / 8.
+pub fn put_side(area: &mut [u8], slot: usize, words: [u64; SIDE_WORDS])
+    requires { ⌜ sideLength * suc slot ≤ length (now area) ⌝ }
+    ensures { λ _. ⌜ ((s : Side) → SideWords words s → now (area .exit) ≡ putSide slot s (now (area .entry))) ⌝ }
+{
+    let from = SIDE_LENGTH * slot;
+    put_eight(area, from, words[0]);
+    put_eight(area, from + 8, words[1]);
+    put_eight(area, from + 16, words[2]);
+    put_eight(area, from + 24, words[3]);
 }
 
 // Writes a report.
