@@ -1,10 +1,10 @@
 //! Times the entry of the list, `wcut_list`, against that of the report, `wcut_report`, on the same sheets.
 
 use crate::networks::{self, KINDS};
+use crate::ties::{idle_nodes, ring};
 use crate::{entry, list_entry, timed};
 use reference::generate::Size;
-use reference::network::{Link, Network, Tree};
-use reference::random::Random;
+use reference::network::Network;
 use reference::report::SIDE_BYTES;
 use reference::sheet::{self, MOST_LINKS, MOST_NODES, MOST_TREES};
 
@@ -14,8 +14,6 @@ const SHORT: usize = 1000;
 const LIMIT: f64 = 4.0;
 /// The most sides that a sheet can have.
 pub const MOST_SIDES: usize = MOST_TREES * MOST_NODES * (MOST_NODES - 1) / 2;
-
-const HEAVY: u64 = 1_000_000;
 
 struct Case {
     name: String,
@@ -30,38 +28,6 @@ fn of_network(name: &str, network: &Network) -> Case {
 fn of_kind(size: Size, kind: &networks::Kind) -> Case {
     let name = format!("{:>5} {:>5} {:>5}  {}", size.nodes, size.links, size.trees, kind.name);
     Case { name, bytes: networks::sheet(size, kind) }
-}
-
-/// A ring, every so many links of which are light, with further links beside the heavy ones; each tree is the ring without one link of it.
-/// Every tree shows each of the sides, which cross two light links.
-fn ring(nodes: usize, links: usize, trees: usize, every: usize) -> Network {
-    let link = |k: usize| {
-        let weight = if k < nodes && k % every == 0 { 1 } else { HEAVY };
-        let first = if k < nodes { k } else { 1 };
-        Link { first, second: (first + 1) % nodes, weight }
-    };
-    let tree = |i: usize| Tree { share: 0, members: (0..nodes).filter(|k| *k != i * 7 % nodes).collect() };
-    Network { nodes, links: (0..links).map(link).collect(), trees: (0..trees).map(tree).collect() }
-}
-
-/// Random trees, and some nodes whose links all weigh 0: each tree shows sides of such nodes that no tree before it does.
-fn idle_nodes(nodes: usize, links: usize, trees: usize, idle: usize) -> Network {
-    let mut random = Random::new(1);
-    let per_tree = nodes - 1;
-    let different = trees.min(links / per_tree);
-    let mut all = Vec::new();
-    let weight = |first: usize, second: usize| if first.max(second) + idle < nodes { HEAVY } else { 0 };
-    let mut order: Vec<usize> = (0..nodes).collect();
-    for _ in 0..different {
-        random.shuffle(&mut order[1..]);
-        for place in 1..nodes {
-            let (first, second) = (order[random.below(place)], order[place]);
-            all.push(Link { first, second, weight: weight(first, second) });
-        }
-    }
-    let tree =
-        |i: usize| Tree { share: 0, members: (i % different * per_tree..(i % different + 1) * per_tree).collect() };
-    Network { nodes, links: all, trees: (0..trees).map(tree).collect() }
 }
 
 fn cases() -> Vec<Case> {

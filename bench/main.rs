@@ -17,6 +17,7 @@ mod read;
 mod rows;
 mod stack;
 mod thickness;
+mod ties;
 
 use answer::Outcome;
 use networks::{Kind, KINDS};
