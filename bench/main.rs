@@ -58,7 +58,7 @@ struct Ratios {
 }
 
 const LONGEST_LIMITS: Ratios = Ratios { search: 1.3, before: 1.0 / 10.0 };
-const MIDDLE_LIMITS: Ratios = Ratios { search: 1.5, before: 1.0 / 4.0 };
+const MIDDLE_LIMITS: Ratios = Ratios { search: 1.4, before: 1.0 / 4.0 };
 
 fn entry(sheet: &[u8]) -> Outcome {
     let mut outcome = Outcome::unwritten(0);
@@ -70,15 +70,18 @@ fn entry(sheet: &[u8]) -> Outcome {
     outcome
 }
 
-/// The number of sides that the entry of the list writes, all of which the area has room for.
-fn list_entry(sheet: &[u8], area: &mut [u8]) -> usize {
+/// The number of sides that the entry of the list writes, or the number with which it refuses.
+fn list_entry(sheet: &[u8], area: &mut [u8]) -> Result<usize, u32> {
     let mut count = 0;
     // SAFETY: each pointer is that of a slice with the length behind it or of a number, and none of the three overlaps another.
     let number = unsafe {
         wcut_list(sheet.as_ptr(), sheet.len(), area.as_mut_ptr(), area.len(), std::ptr::from_mut(&mut count))
     };
-    assert_eq!(number, 0);
-    count as usize
+    if number == 0 {
+        Ok(count as usize)
+    } else {
+        Err(number)
+    }
 }
 
 /// So many places on the stack, some hundred bytes apart and over a page together, take turns: how fast a call is depends on where its

@@ -21,10 +21,10 @@ extern "C" {
 #define WCUT_SIDE_BYTES 32       /* a side, in the side area, in a list and in a side map: node k is bit k % 8 of byte k / 8 */
 #define WCUT_REPORT_BYTES 24     /* the report area, laid out as below */
 #define WCUT_LONGEST_SHEET 30853 /* a sheet of more bytes is refused */
-#define WCUT_STACK_BYTES 54960   /* what a call takes of the stack: measured on longest sheets (tools/bench --stack), not proved */
-#define WCUT_LIST_STACK_BYTES 57584 /* the same of wcut_list */
+#define WCUT_STACK_BYTES 45328   /* what a call takes of the stack: measured on longest sheets (tools/bench --stack), not proved */
+#define WCUT_LIST_STACK_BYTES 56368 /* the same of wcut_list */
 #define WCUT_CORNERS_STACK_BYTES 17664 /* the same of wcut_corners */
-#define WCUT_THICKNESS_STACK_BYTES 45216 /* the same of wcut_thickness */
+#define WCUT_THICKNESS_STACK_BYTES 45264 /* the same of wcut_thickness */
 #define WCUT_MOST_NODES 256
 #define WCUT_MOST_LINKS 2048
 #define WCUT_MOST_TREES 32
@@ -101,8 +101,9 @@ uint32_t wcut_report(const uint8_t *sheet, size_t sheet_length,
  * as it was, and returns the sheet's refusal or, if there is none, WCUT_SHORT_LIST where the area cannot hold them all. Bytes behind
  * the last side are never touched. docs/ENTRY.md says when the sides are all of that weight that the whole network has.
  *
- * With n nodes and t trees there are at most t n (n - 1) / 2 sides. A call takes less than four times as long as one of wcut_report where
- * there are up to 1,000 of them, and time in proportion to their number where there are more.
+ * With n nodes and t trees there are at most t n (n - 1) / 2 sides. A call searches the sheet, counts the sides and writes them: for few sides
+ * it takes two to three times as long as one of wcut_report, and longer where many trees have many sides of that weight. docs/ENTRY.md has
+ * a bound for every sheet, and what was measured.
  *
  * The caller's duties:
  *   - each pointer is not null; sheet and sides point to as many bytes as the length behind each says, count to a number; those of the

@@ -1,5 +1,4 @@
 pub mod OrderLaws
 pub mod GrowthLaws
-pub mod MarkLaws
 pub mod BelowLaws
 pub mod LinkLaws

@@ -4,5 +4,4 @@ pub mod ByNode
 pub mod Order
 pub mod Grown
 pub mod Kept
-pub mod Marks
 pub mod Records

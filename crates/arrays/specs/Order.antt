@@ -1,10 +1,9 @@
 -- A tree's nodes in an order that starts at the root and has each node behind its parent. The order is a list of nodes; parents and
 -- parent links, `uplinks`, are lists with a number for each node. Assumes nothing.
 --   Hung net t k x p              node x hangs by the member k on node p
---   Tied net t o p l i            the node at position i of the order o hangs by its link, in l, on its parent, in p, which stands
---                                 before it
---   Listed net t o p l count      the first `count` positions of o hold different nodes, the root first and each other one tied
---   Ordered net t o p l           so do as many positions as there are nodes, and every node stands at one of them
+--   Tied net t o p l i            the i-th node of the order o, from 0, hangs by its link, in l, on its parent, in p, which stands before it
+--   Listed net t o p l count      the first `count` numbers of o are different nodes, the root first and each other one tied
+--   Ordered net t o p l           so are as many as there are nodes, and every node is one of them
 --   Lower net l e v               v is the lower end of e: a node other than the root whose parent link is e
 --   Owned net t l                 every member is the parent link of exactly one node
 use Prim.Native.Nat.{ℕ, _<_}

@@ -1,5 +1,6 @@
 -- A table of bits with one cell for each link of a tree and each pair of them, by rank: the member of rank r is the r-th by number, from 0.
--- Row r has the cell of the member alone in column r, then those of its pairs with each later member. Assumes nothing.
+-- Of 256 bits for each rank r, bit r is the cell of that member alone, and those behind it are the cells of its pairs with later members.
+-- Assumes nothing.
 --   tableLength           the words of such a table
 --   cellsEnd m            the cells of m members stand in front of it
 --   isCell m q            bit q is a cell of m members

@@ -134,7 +134,7 @@ crossedOf : Crossed → Crossed
 unfolding reported cutWeight cornerSide table
 crossedOf c =
     let net : Network = c .network in
-    crosses net (c .first) (c .second) (reported (current .rules .rank) net .weight) (cutWeight net (c .first) ∷ cutWeight net (c .second) ∷ [])
+    crosses net (c .first) (c .second) (reported (current .rules .key) net .weight) (cutWeight net (c .first) ∷ cutWeight net (c .second) ∷ [])
     (table 4 (λ i. cutWeight net (cornerSide net (c .first) (c .second) i)))
 
 crossed : List Crossed

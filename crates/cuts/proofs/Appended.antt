@@ -10,7 +10,7 @@ use lib.Seq.{take-append-le}
 use Rattle.cuts.specs.Network.{Tree, Network}
 use Rattle.cuts.specs.Cut.{cutWeight, size}
 use Rattle.cuts.specs.Tree.{Sound}
-use Rattle.cuts.specs.Candidate.{Rank}
+use Rattle.cuts.specs.Candidate.{Key}
 use Rattle.cuts.specs.Bound.{shares, Packed, LongestRun, longestRun, counted, floor}
 use Rattle.cuts.specs.Answer.{Rules, answer, judged}
 use Rattle.cuts.proofs.LoadLaws.{shares-take}
@@ -36,9 +36,9 @@ module _ (net : Network) (more : List Tree) where
       let l = shares-take (appended .trees) _ _ (c .0) in
       rw (counted-run net (net .trees) _ r, counted-run appended (appended .trees) _ s, ← c .1) l
 
-  module _ (rank : Rank) where
+  module _ (key : Key) where
     abbrev by-run : Rules
-    by-run = record { counting = longestRun; rank = rank }
+    by-run = record { counting = longestRun; key = key }
 
     pub appended-no-less : Sound net → Sound appended → answer by-run net .floor ≤ answer by-run appended .floor
     unfolding answer judged floor size cutWeight

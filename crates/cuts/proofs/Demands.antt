@@ -16,7 +16,7 @@ use Rattle.cuts.specs.Sums.{only, anyTo}
 use Rattle.cuts.specs.Network.{Tree, Network, Linked, flag, linkCount, noTree, treeAt}
 use Rattle.cuts.specs.Cut.{Side, Respects, Proper, Rootless, crosses, cutWeight, crossings, size}
 use Rattle.cuts.specs.Tree.{Spanning, Sound, memberCount}
-use Rattle.cuts.specs.Candidate.{Candidate, Handle, Fits, Rank, LowerThen, Earlier, Precedes, one, two, candidate, candidates, ahead, noCandidate, sideOf}
+use Rattle.cuts.specs.Candidate.{Candidate, Handle, Fits, Key, LowerThen, Earlier, Precedes, one, two, candidate, candidates, ahead, noCandidate, sideOf}
 use Rattle.cuts.specs.Bound.{shares, Counting, CountedBy, counted, floor}
 use Rattle.cuts.specs.Answer.{Rules, Answer, certified, treesOnly, verdictOf, reported, judged, answer}
 use Rattle.cuts.specs.Demands.{Demand2, Demand3, Owed}
@@ -121,12 +121,12 @@ pub record Weighing (before : Candidate → Candidate → Bool) : Type 0 where
   pub order : Order before
   pub by-weight : (d c : Candidate) → before d c ≡ false → c .weight ≤ d .weight
 
-module _ (rank : Rank) where
-  pub ahead-weighing : Weighing (ahead rank)
+module _ (key : Key) where
+  pub ahead-weighing : Weighing (ahead key)
   unfolding ahead
   ahead-weighing = record {
-    order = then-order _ _ (by-key (λ c. c .weight)) (by-key rank);
-    by-weight = λ d c e. step (by-number-not (λ c. c .weight) (λ c d. ltb (rank c) (rank d)) c d e);
+    order = then-order _ _ (by-key (λ c. c .weight)) (by-key key);
+    by-weight = λ d c e. step (by-number-not (λ c. c .weight) (λ c d. ltb (key c) (key d)) c d e);
   }
     where
       step : {a b : ℕ} {next : Type 0} → LowerThen a b next → a ≤ b
@@ -134,22 +134,22 @@ module _ (rank : Rank) where
       step (inr e) = omega (arith, e .0)
 
   -- one that is ahead of another precedes it, and so does an earlier one that the other is not ahead of
-  ahead-precedes : (c d : Candidate) → (ahead rank c d ≡ true) ⊎ ((ahead rank d c ≡ false) × Earlier c d) → Precedes rank c d
+  ahead-precedes : (c d : Candidate) → (ahead key c d ≡ true) ⊎ ((ahead key d c ≡ false) × Earlier c d) → Precedes key c d
   unfolding ahead
-  ahead-precedes c d (inl e) = step (by-number-of (λ c. c .weight) (λ c d. ltb (rank c) (rank d)) c d e)
+  ahead-precedes c d (inl e) = step (by-number-of (λ c. c .weight) (λ c d. ltb (key c) (key d)) c d e)
     where
-      step : LowerThen (c .weight) (d .weight) (ltb (rank c) (rank d) ≡ true) → Precedes rank c d
+      step : LowerThen (c .weight) (d .weight) (ltb (key c) (key d) ≡ true) → Precedes key c d
       step (inl l) = inl l
-      step (inr q) = inr (q .0, inl (ltb-true (rank c) (rank d) (q .1)))
-  ahead-precedes c d (inr e) = step (by-number-not (λ c. c .weight) (λ c d. ltb (rank c) (rank d)) c d (e .0))
+      step (inr q) = inr (q .0, inl (ltb-true (key c) (key d) (q .1)))
+  ahead-precedes c d (inr e) = step (by-number-not (λ c. c .weight) (λ c d. ltb (key c) (key d)) c d (e .0))
     where
-      level : (rank c ≡ rank d) ⊎ (rank c < rank d) → LowerThen (rank c) (rank d) (Earlier c d)
+      level : (key c ≡ key d) ⊎ (key c < key d) → LowerThen (key c) (key d) (Earlier c d)
       level (inl q) = inr (q, e .1)
       level (inr l) = inl l
 
-      step : LowerThen (c .weight) (d .weight) (ltb (rank d) (rank c) ≡ false) → Precedes rank c d
+      step : LowerThen (c .weight) (d .weight) (ltb (key d) (key c) ≡ false) → Precedes key c d
       step (inl l) = inl l
-      step (inr q) = inr (q .0, level (eq-or-lt-of-le (ltb-false (rank d) (rank c) (q .1))))
+      step (inr q) = inr (q .0, level (eq-or-lt-of-le (ltb-false (key d) (key c) (q .1))))
 
 pub verdict-tells : (f w : ℕ) → (verdictOf f w ≡ certified) ↔ (w ≡ f)
 verdict-tells f w = (λ h. sym (eqb-true f w (whole (eqb f w) h)), λ h. rw (eq-eqb f w (sym h)))
@@ -281,39 +281,39 @@ module _ (net : Network) (v : Sound net) where
 
   -- ---- the answer
 
-  module _ (rank : Rank) where
-    pub reported-first : First (ahead rank) (candidates net) (reported rank net)
+  module _ (key : Key) where
+    pub reported-first : First (ahead key) (candidates net) (reported key net)
     unfolding reported
-    reported-first = first-of (ahead-weighing rank .order) noCandidate (candidates net) (some-candidate .1)
+    reported-first = first-of (ahead-weighing key .order) noCandidate (candidates net) (some-candidate .1)
 
     -- the reported candidate precedes every other
-    pub reported-precedes : (d : Candidate) → List·Memᴰ d (candidates net) → (d ≡ reported rank net) ⊎ Precedes rank (reported rank net) d
-    reported-precedes d m = step (precedes (ahead-weighing rank) (reported rank net) reported-first d m)
+    pub reported-precedes : (d : Candidate) → List·Memᴰ d (candidates net) → (d ≡ reported key net) ⊎ Precedes key (reported key net) d
+    reported-precedes d m = step (precedes (ahead-weighing key) (reported key net) reported-first d m)
       where
-        step : (d ≡ reported rank net) ⊎ ((ahead rank (reported rank net) d ≡ true) ⊎ ((ahead rank d (reported rank net) ≡ false) × Earlier (reported rank net) d))
-            → (d ≡ reported rank net) ⊎ Precedes rank (reported rank net) d
+        step : (d ≡ reported key net) ⊎ ((ahead key (reported key net) d ≡ true) ⊎ ((ahead key d (reported key net) ≡ false) × Earlier (reported key net) d))
+            → (d ≡ reported key net) ⊎ Precedes key (reported key net) d
         step (inl e) = inl e
-        step (inr e) = inr (ahead-precedes rank (reported rank net) d e)
+        step (inr e) = inr (ahead-precedes key (reported key net) d e)
 
   module _ (r : Rules) where
     pub answer-demand2 : Demand2 net (answer r net)
     unfolding answer judged
-    answer-demand2 = candidate-agrees (answer r net) (first-in (reported-first (r .rank)))
+    answer-demand2 = candidate-agrees (answer r net) (first-in (reported-first (r .key)))
 
     pub answer-demand3 : Demand3 (r .counting) net (answer r net)
     unfolding answer judged floor
     answer-demand3 =
-        let best = reported (r .rank) net in
-        let first = reported-first (r .rank) in
+        let best = reported (r .key) net in
+        let first = reported-first (r .key) in
         record {
           proper = agrees-proper (answer r net) answer-demand2;
           respects = (best .tree, answer-demand2 .tree-listed, answer-demand2 .at-most-two);
           own-weight = agrees-weight (answer r net) answer-demand2;
-          lightest = light (ahead-weighing (r .rank)) best first;
+          lightest = light (ahead-weighing (r .key)) best first;
           counted = counted (r .counting) net (net .trees);
           counts = counted-counts net (net .trees) (r .counting);
           floor-is = refl;
-          floor-bounds = floor-least (ahead-weighing (r .rank)) best first (r .counting);
+          floor-bounds = floor-least (ahead-weighing (r .key)) best first (r .counting);
           marked = verdict-tells (answer r net .floor) (best .weight);
         }
 
@@ -324,8 +324,8 @@ module _ (net : Network) (v : Sound net) where
       demand3 = answer-demand3;
       rootless = agrees-rootless (answer r net) answer-demand2;
       unmarked = verdict-else (answer r net .floor) (answer r net .best .weight);
-      listed = first-in (reported-first (r .rank));
-      first = reported-precedes (r .rank);
+      listed = first-in (reported-first (r .key));
+      first = reported-precedes (r .key);
       paths = λ i b. paths (v .spanning i b);
       reaches = reaches net (v .linked);
     }

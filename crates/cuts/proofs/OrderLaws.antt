@@ -4,7 +4,7 @@ use Prim.Native.Nat.{ℕ}
 use mathlib.Core.Path.{_≡_, sym, subst}
 use mathlib.Core.Logic.{_⊎_, inl, inr}
 use native.Mathlib.Omega.{arith}
-use Rattle.cuts.specs.Candidate.{Handle, one, two, Candidate, Rank, LowerThen, Sooner, Earlier, Precedes}
+use Rattle.cuts.specs.Candidate.{Handle, one, two, Candidate, Key, LowerThen, Sooner, Earlier, Precedes}
 
 lower-one-way : {a b : ℕ} {there back : Type 0} → (there → back → ⊥) → LowerThen a b there → LowerThen b a back → ⊥
 lower-one-way h (inl l) (inl m) = omega arith
@@ -25,12 +25,12 @@ sooner-apart g h l q = let k = subst (λ (x : Handle). Sooner x h) q l in sooner
 pub earlier-one-way : (c d : Candidate) → Earlier c d → Earlier d c → ⊥
 earlier-one-way c d l m = lower-one-way (sooner-one-way (c .handle) (d .handle)) l m
 
-module _ (rank : Rank) (c d : Candidate) where
-  pub precedes-one-way : Precedes rank c d → Precedes rank d c → ⊥
+module _ (key : Key) (c d : Candidate) where
+  pub precedes-one-way : Precedes key c d → Precedes key d c → ⊥
   precedes-one-way l m = lower-one-way (λ p q. lower-one-way (earlier-one-way c d) p q) l m
 
   -- two that each are first of the two are one
-  pub precedes-only : (d ≡ c) ⊎ Precedes rank c d → (c ≡ d) ⊎ Precedes rank d c → c ≡ d
+  pub precedes-only : (d ≡ c) ⊎ Precedes key c d → (c ≡ d) ⊎ Precedes key d c → c ≡ d
   precedes-only (inl e) r = sym e
   precedes-only (inr l) (inl e) = e
   precedes-only (inr l) (inr m) = absurd (precedes-one-way l m)

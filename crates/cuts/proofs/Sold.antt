@@ -1,5 +1,5 @@
 -- Units already sold. Request F-3: which trees count does not alter the reported cut. Where all trees are a packing, floor and verdict are
--- theirs too; elsewhere the floor is no less than theirs, which is 0, and a certified cut stays certified. Request F-6: the rank of
+-- theirs too; elsewhere the floor is no less than theirs, which is 0, and a certified cut stays certified. Request F-6: the key of
 -- candidates alters neither the reported weight nor floor and verdict; by fewer nodes, the reported cut is theirs unless one of the same
 -- weight has fewer nodes than theirs.
 -- Assumes nothing.
@@ -9,7 +9,7 @@ use mathlib.Core.Logic.{_⊎_, inl, inr}
 use native.Mathlib.Omega.{arith}
 use Rattle.cuts.specs.Network.{Network}
 use Rattle.cuts.specs.Tree.{Sound}
-use Rattle.cuts.specs.Candidate.{Candidate, Rank, alike, fewerNodes, Precedes}
+use Rattle.cuts.specs.Candidate.{Candidate, Key, alike, fewerNodes, Precedes}
 use Rattle.cuts.specs.Bound.{shares, Packed, Overloads, Counting, allOrNone, longestRun, CountedBy, counted, floor}
 use Rattle.cuts.specs.Answer.{Answer, certified, verdictOf, reported, judged, answer}
 use Rattle.cuts.proofs.CountedLaws.{counted-counts, counted-all}
@@ -17,17 +17,17 @@ use Rattle.cuts.proofs.Least.{first-in}
 use Rattle.cuts.proofs.OrderLaws.{earlier-one-way}
 use Rattle.cuts.proofs.Demands.{ahead-weighing, least, reported-first, reported-precedes, verdict-tells}
 
-abbrev by : Counting → Rank → Network → Answer
-by counting rank net = answer (record { counting = counting; rank = rank }) net
+abbrev by : Counting → Key → Network → Answer
+by counting key net = answer (record { counting = counting; key = key }) net
 
 -- ---- F-3
 
-module _ (rank : Rank) (net : Network) where
+module _ (key : Key) (net : Network) where
   abbrev sold : Answer
-  sold = by allOrNone rank net
+  sold = by allOrNone key net
 
   abbrev tolerant : Answer
-  tolerant = by longestRun rank net
+  tolerant = by longestRun key net
 
   pub cut-before : tolerant .best ≡ sold .best
   unfolding answer judged
@@ -65,17 +65,17 @@ module _ (rank : Rank) (net : Network) where
 -- ---- F-6
 
 module _ (net : Network) (v : Sound net) where
-  weight-least : (rank other : Rank) → reported rank net .weight ≤ reported other net .weight
-  weight-least rank other = least net v (ahead-weighing rank) (reported rank net) (reported-first net v rank) (reported other net) (first-in (reported-first net v other))
+  weight-least : (key other : Key) → reported key net .weight ≤ reported other net .weight
+  weight-least key other = least net v (ahead-weighing key) (reported key net) (reported-first net v key) (reported other net) (first-in (reported-first net v other))
 
-  weight-same : (rank other : Rank) → reported rank net .weight ≡ reported other net .weight
-  weight-same rank other = let a = weight-least rank other in let b = weight-least other rank in omega arith
+  weight-same : (key other : Key) → reported key net .weight ≡ reported other net .weight
+  weight-same key other = let a = weight-least key other in let b = weight-least other key in omega arith
 
-  pub ranks-agree : (counting : Counting) (rank other : Rank) → let a = by counting rank net in let b = by counting other net in
+  pub ranks-agree : (counting : Counting) (key other : Key) → let a = by counting key net in let b = by counting other net in
       (a .best .weight ≡ b .best .weight) × (a .floor ≡ b .floor) × (a .verdict ≡ b .verdict)
   unfolding answer judged
-  ranks-agree counting rank other =
-      let same = weight-same rank other in
+  ranks-agree counting key other =
+      let same = weight-same key other in
       let floorOf : ℕ → ℕ = floor (counted counting net (net .trees)) in
       (same, ap floorOf same, ap (λ (w : ℕ). verdictOf (floorOf w) w) same)
 

@@ -1,5 +1,5 @@
 -- The loads of a tree packing, the trees that count, and the bound that these give on every cut (document 01, "What is reckoned"; document
--- 02, F-3; source 001, Definition 2, with a load held to its link's weight in place of 1). Assumes nothing.
+-- 02, F-3; source 001, Definition 2, with a load held to its link's weight instead of 1). Assumes nothing.
 --   load ts k               the sum of the shares of those of the trees ts that hold link k
 --   shares ts               the sum of all their shares
 --   Packed net ts           the trees ts load no link past its weight: they are a packing

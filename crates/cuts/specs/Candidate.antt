@@ -16,14 +16,14 @@
 --   candidatesFrom net i ts    the candidates of the trees ts, which are numbered from i
 --   candidates net             all candidates: by tree, first link, one link before two, second link
 --   noCandidate                what stands for the first of no candidates; a sound network has some
---   Rank                       a number that decides between candidates of one weight before their trees do: the lower comes first
---   alike                      document 01's rank, of units already sold: it decides nothing
---   fewerNodes                 the rank of request F-6: the number of nodes in the side
---   ahead k d c                d weighs less than c; of one weight, d has the lower rank by k. The list has the rest of the order
+--   Key                       a number that decides between candidates of one weight before their trees do: the lower comes first
+--   alike                      document 01's key, of units already sold: it decides nothing
+--   fewerNodes                 the key of request F-6: the number of nodes in the side
+--   ahead k d c                d weighs less than c; of one weight, d has the lower key by k. The list has the rest of the order
 --   LowerThen a b next         a is lower than b; where they are equal, `next` decides
 --   Sooner g h                 of handles of one tree, g comes first: lower first link, one link before two, lower second link
 --   Earlier c d                c comes first in the list: lower tree number, then the sooner handle
---   Precedes k c d             c comes before d in the order of candidates: lower weight, lower rank by k, then the earlier
+--   Precedes k c d             c comes before d in the order of candidates: lower weight, lower key by k, then the earlier
 use Prim.Native.Nat.{ℕ, suc, _+_, _-_, _*_, _≤_, _<_}
 use mathlib.Core.Path.{_≡_}
 use mathlib.Core.Logic.{_⊎_}
@@ -108,18 +108,18 @@ noCandidate = record { tree = 0; handle = one 0; weight = 0; count = 0; side = [
 
 -- ---- their order
 
-abbrev pub Rank : Type 0
-Rank = Candidate → ℕ
+abbrev pub Key : Type 0
+Key = Candidate → ℕ
 
-abbrev pub alike : Rank
+abbrev pub alike : Key
 alike c = 0
 
-abbrev pub fewerNodes : Rank
+abbrev pub fewerNodes : Key
 fewerNodes c = c .count
 
-unfoldable pub ahead : Rank → Candidate → Candidate → Bool
+unfoldable pub ahead : Key → Candidate → Candidate → Bool
 unfolding thenBy
-ahead rank d c = thenBy (λ x y. ltb (x .weight) (y .weight)) (λ x y. ltb (rank x) (rank y)) d c
+ahead key d c = thenBy (λ x y. ltb (x .weight) (y .weight)) (λ x y. ltb (key x) (key y)) d c
 
 abbrev pub LowerThen : ℕ → ℕ → Type 0 → Type 0
 LowerThen a b next = (a < b) ⊎ ((a ≡ b) × next)
@@ -134,5 +134,5 @@ abbrev pub Earlier : Candidate → Candidate → Type 0
 Earlier c d = LowerThen (c .tree) (d .tree) (Sooner (c .handle) (d .handle))
 
 -- F-6: "the order is weight, fewer nodes in the side, tree, first link, single before pair, second link"
-abbrev pub Precedes : Rank → Candidate → Candidate → Type 0
-Precedes rank c d = LowerThen (c .weight) (d .weight) (LowerThen (rank c) (rank d) (Earlier c d))
+abbrev pub Precedes : Key → Candidate → Candidate → Type 0
+Precedes key c d = LowerThen (c .weight) (d .weight) (LowerThen (key c) (key d) (Earlier c d))

@@ -55,7 +55,7 @@ pub record Demand3 (counting : Counting) (net : Network) (a : Answer) : Type 0 w
   -- "every side, neither empty nor full, that crosses at most two cables of at least one listed tree weighs at least as much"
   pub lightest : (s : Side) → Proper net s → (i : ℕ) → i < length (net .trees) → Respects net (treeAt net i) s
       → a .best .weight ≤ cutWeight net s
-  -- F-3, in place of the demand's sum of all shares and its 0 elsewhere: "the trees that count are the longest run from tree 0 on
+  -- F-3, instead of the demand's sum of all shares and its 0 elsewhere: "the trees that count are the longest run from tree 0 on
   -- that loads no link past its weight, and the floor uses the sum of their shares only"
   pub counted : List Tree
   pub counts : CountedBy counting net (net .trees) counted
@@ -75,7 +75,7 @@ pub record Owed (r : Rules) (net : Network) (a : Answer) : Type 0 where
   -- document 01: "the first in order is reported", and F-6: "the order is weight, fewer nodes in the side, tree, first link, single
   -- before pair, second link"
   pub listed : List·Memᴰ (a .best) (candidates net)
-  pub first : (d : Candidate) → List·Memᴰ d (candidates net) → (d ≡ a .best) ⊎ Precedes (r .rank) (a .best) d
+  pub first : (d : Candidate) → List·Memᴰ d (candidates net) → (d ≡ a .best) ⊎ Precedes (r .key) (a .best) d
   -- the definitions mean what document 01 says by tree paths and joining: "nodes whose tree path to node 0 uses it", "the links whose
   -- ends are joined by a tree path using both", "join every node to node 0"
   pub paths : (i : ℕ) → i < length (net .trees) → Paths net (treeAt net i)

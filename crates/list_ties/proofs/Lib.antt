@@ -1,7 +1,5 @@
 pub mod SlotLaws
-pub mod PlacingLaws
+pub mod SlottedLaws
 pub mod SortingLaws
 pub mod CellLaws
 pub mod TieLaws
-pub mod NodeLaws
-pub mod WordLaws

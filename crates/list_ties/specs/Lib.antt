@@ -1,3 +1,2 @@
-pub mod Placing
-pub mod NodeRows
+pub mod Slots
 pub mod Ties

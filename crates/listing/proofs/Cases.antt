@@ -1,7 +1,7 @@
 -- The lists of the lightest sides of small networks, fewer nodes first, and what is missing from them, by computing two tables.
 --   Listing         a network and the nodes of its listed sides
 --   listingOf net   the network net with the nodes of the sides that are listed
---   foundIn net     the same of the sides that code finds: those of the new candidates, by rank
+--   foundIn net     the same of the sides that code finds: those of the new candidates, by key
 --   listings        document 01's ring, with a second tree that brings no side, the complete graph of four nodes, with a second tree that
 --                   brings a side, and document 01's case F
 --   Gap             a network, its reported weight, three times the shares of its trees that count, and the nodes of the sides without the
@@ -20,7 +20,7 @@ use Rattle.cuts.specs.Cut.{Side, cutWeight, size}
 use Rattle.cuts.specs.Candidate.{fewerNodes}
 use Rattle.cuts.specs.Bound.{shares, longestRun, counted}
 use Rattle.cuts.specs.Answer.{reported}
-use Rattle.listing.specs.Picks.{keep, anyOf, ranked}
+use Rattle.listing.specs.Picks.{keep, anyOf, sorted}
 use Rattle.listing.specs.Listing.{sameFlags, listed}
 use Rattle.listing.specs.Rounds.{newOnes}
 
@@ -77,8 +77,8 @@ unfolding listed
 listingOf net = lists net (map (nodesOf net) (listed fewerNodes net))
 
 foundIn : Network → Listing
-unfolding ranked newOnes
-foundIn net = lists net (map (λ c. nodesOf net (c .side)) (ranked (net .nodes) fewerNodes (newOnes fewerNodes net)))
+unfolding sorted newOnes
+foundIn net = lists net (map (λ c. nodesOf net (c .side)) (sorted (net .nodes) fewerNodes (newOnes fewerNodes net)))
 
 abbrev ringSides : List (List ℕ)
 ringSides = (1 ∷ []) ∷ (2 ∷ []) ∷ (3 ∷ []) ∷ (1 ∷ 2 ∷ []) ∷ (2 ∷ 3 ∷ []) ∷ (1 ∷ 2 ∷ 3 ∷ []) ∷ []

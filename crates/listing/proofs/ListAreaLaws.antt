@@ -26,13 +26,13 @@ use Rattle.listing.proofs.ListOwed.{listed-owed}
 -- ---- room
 
 module _ (f : Format) (area : Bytes) (net : Network) (rest : Bytes) where
-  pub fitting-room : areaLength (f .rules .rank) net ≤ length area → fitting f area net rest ≡ accepted net rest
+  pub fitting-room : areaLength (f .rules .key) net ≤ length area → fitting f area net rest ≡ accepted net rest
   unfolding fitting firstFailing
-  fitting-room l = rw (le-ltb (length area) (areaLength (f .rules .rank) net) l)
+  fitting-room l = rw (le-ltb (length area) (areaLength (f .rules .key) net) l)
 
-  pub fitting-short : length area < areaLength (f .rules .rank) net → fitting f area net rest ≡ refused 19
+  pub fitting-short : length area < areaLength (f .rules .key) net → fitting f area net rest ≡ refused 19
   unfolding fitting firstFailing
-  fitting-short l = rw (lt-ltb (length area) (areaLength (f .rules .rank) net) l)
+  fitting-short l = rw (lt-ltb (length area) (areaLength (f .rules .key) net) l)
 
 -- a refusal of the sheet comes first
 pub sheet-refused : (f : Format) (sheet area : Bytes) (n : ℕ) → decode f sheet ≡ refused n → listReading f sheet area ≡ refused n
@@ -83,9 +83,9 @@ module _ (nodes : ℕ) (few : nodes ≤ mostNodes) where
       table-at [] (length ss) _ i c ∙ side-at ss (drop (length (listBytes ss)) old) h i c)
 
 -- what is owed of the list is owed of what stands in the area
-module _ (r : Rules) (net : Network) (v : Sound net) (by-sides : BySides net (r .rank)) (few : net .nodes ≤ mostNodes) where
-  pub sides-owed : (old : Bytes) → OwedList r net (sidesRead (net .nodes) (length (listed (r .rank) net)) (written (listBytes (listed (r .rank) net)) old))
+module _ (r : Rules) (net : Network) (v : Sound net) (by-sides : BySides net (r .key)) (few : net .nodes ≤ mostNodes) where
+  pub sides-owed : (old : Bytes) → OwedList r net (sidesRead (net .nodes) (length (listed (r .key) net)) (written (listBytes (listed (r .key) net)) old))
   sides-owed old =
       subst (OwedList r net)
-      (sym (sidesRead-written (net .nodes) few (listed (r .rank) net) old (λ s m. listed-is net v (r .rank) by-sides s .0 m .proper .sized)))
+      (sym (sidesRead-written (net .nodes) few (listed (r .key) net) old (λ s m. listed-is net v (r .key) by-sides s .0 m .proper .sized)))
       (listed-owed net v r by-sides)

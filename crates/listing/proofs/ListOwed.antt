@@ -11,7 +11,7 @@ use lib.ListN.{length, getD, length-map, List·getD-map}
 use Rattle.cuts.specs.Network.{Tree, Network}
 use Rattle.cuts.specs.Cut.{Side, Proper, Rootless, cutWeight}
 use Rattle.cuts.specs.Tree.{Sound}
-use Rattle.cuts.specs.Candidate.{Candidate, Rank, Precedes, candidates, noCandidate}
+use Rattle.cuts.specs.Candidate.{Candidate, Key, Precedes, candidates, noCandidate}
 use Rattle.cuts.specs.Bound.{shares, Counting, CountedBy, counted, floor}
 use Rattle.cuts.specs.Answer.{Rules, certified, reported, judged, answer}
 use Rattle.cuts.proofs.ListLaws.{Each, at-mem, mem-at, each-at, at-each, each-only}
@@ -27,24 +27,24 @@ use Rattle.listing.proofs.ListingLaws.{BySides, sameFlags-tells, inOrde
 
 -- ---- the order of a list's sides
 
-module _ (net : Network) (rank : Rank) where
-  opens-same : (c d : Candidate) → Opens rank net c → Opens rank net d → c .side ≡ d .side → c ≡ d
-  opens-same c d o p q = precedes-only rank c d (o .first d (p .listed) (sym q)) (p .first c (o .listed) q)
+module _ (net : Network) (key : Key) where
+  opens-same : (c d : Candidate) → Opens key net c → Opens key net d → c .side ≡ d .side → c ≡ d
+  opens-same c d o p q = precedes-only key c d (o .first d (p .listed) (sym q)) (p .first c (o .listed) q)
 
   -- the first candidate of r's side precedes the first of s's
   Met : Side → Side → Type 0
-  Met r s = (c d : Candidate) × Opens rank net c × (c .side ≡ r) × Opens rank net d × (d .side ≡ s) × Precedes rank c d
+  Met r s = (c d : Candidate) × Opens key net c × (c .side ≡ r) × Opens key net d × (d .side ≡ s) × Precedes key c d
 
   met-one-way : (r s : Side) → Met r s → Met s r → ⊥
   unfolding Met
   met-one-way r s (c, d, o, a, p, b, l) (d′, c′, p′, b′, o′, a′, m) =
       let x : c′ ≡ c = opens-same c′ c o′ o (a′ ∙ sym a) in
       let y : d′ ≡ d = opens-same d′ d p′ p (b′ ∙ sym b) in
-      precedes-one-way rank c d l (subst (λ (z : Candidate). Precedes rank z c) y (subst (Precedes rank d′) x m))
+      precedes-one-way key c d l (subst (λ (z : Candidate). Precedes key z c) y (subst (Precedes key d′) x m))
 
-owed-met : (net : Network) (r : Rules) (ss : List Side) → OwedList r net ss → Each (Met net (r .rank)) ss
+owed-met : (net : Network) (r : Rules) (ss : List Side) → OwedList r net ss → Each (Met net (r .key)) ss
 unfolding Met
-owed-met net r ss o = at-each (Met net (r .rank)) [] ss (λ i j l b.
+owed-met net r ss o = at-each (Met net (r .key)) [] ss (λ i j l b.
     let c = o .met i (omega arith) in
     let d = o .met j b in
     (c .0, d .0, c .1, c .2, d .1, d .2, o .in-order i j l b (c .0) (d .0) (c .1) (c .2) (d .1) (d .2)))
@@ -63,40 +63,40 @@ module _ (net : Network) (v : Sound net) (counting : Counting) (cs : List Tree) 
       step (inr h) = absurd (omega arith)
 
   -- and where they reach the reported weight no side is lighter
-  none-lighter : (rank : Rank) → reported rank net .weight ≤ 3 * shares cs → (s : Side) → Proper net s → reported rank net .weight ≤ cutWeight net s
-  none-lighter rank l s p = step (shown-or-heavy net v counting cs counts s)
+  none-lighter : (key : Key) → reported key net .weight ≤ 3 * shares cs → (s : Side) → Proper net s → reported key net .weight ≤ cutWeight net s
+  none-lighter key l s p = step (shown-or-heavy net v counting cs counts s)
     where
-      step : Shown net s ⊎ (3 * shares cs ≤ cutWeight net s) → reported rank net .weight ≤ cutWeight net s
-      step (inl k) = light net v (ahead-weighing rank) (reported rank net) (reported-first net v rank) s p (k .0) (k .1) (k .2)
+      step : Shown net s ⊎ (3 * shares cs ≤ cutWeight net s) → reported key net .weight ≤ cutWeight net s
+      step (inl k) = light net v (ahead-weighing key) (reported key net) (reported-first net v key) s p (k .0) (k .1) (k .2)
       step (inr h) = omega arith
 
 -- the reported cut is certified exactly where they reach its weight
 pub certified-reached : (net : Network) (r : Rules)
-    → (answer r net .verdict ≡ certified) ↔ (reported (r .rank) net .weight ≤ 3 * shares (counted (r .counting) net (net .trees)))
+    → (answer r net .verdict ≡ certified) ↔ (reported (r .key) net .weight ≤ 3 * shares (counted (r .counting) net (net .trees)))
 unfolding answer judged floor
 certified-reached net r =
-    let tells = verdict-tells (answer r net .floor) (reported (r .rank) net .weight) in
+    let tells = verdict-tells (answer r net .floor) (reported (r .key) net .weight) in
     (λ h. let e = tells .0 h in omega arith, λ l. tells .1 (omega arith))
 
 -- ---- what is owed
 
-module _ (net : Network) (v : Sound net) (r : Rules) (by-sides : BySides net (r .rank)) where
-  pub listed-owed : OwedList r net (listed (r .rank) net)
+module _ (net : Network) (v : Sound net) (r : Rules) (by-sides : BySides net (r .key)) where
+  pub listed-owed : OwedList r net (listed (r .key) net)
   listed-owed = record {
-    holds = listed-is net v (r .rank) by-sides;
-    once = listed-once net v (r .rank) by-sides;
+    holds = listed-is net v (r .key) by-sides;
+    once = listed-once net v (r .key) by-sides;
     met = λ i b. (at i, opens i (rw length-by at b), sym (side-at i));
     in-order = λ i j l b c d o q p e.
         let k : j < length by = rw length-by at b in
-        let x : c ≡ at i = opens-same net (r .rank) c (at i) o (opens i (omega arith)) (q ∙ side-at i) in
-        let y : d ≡ at j = opens-same net (r .rank) d (at j) p (opens j k) (e ∙ side-at j) in
-        let z : Precedes (r .rank) (at i) (at j) = each-at (Precedes (r .rank)) noCandidate by (new-order net v (r .rank) by-sides) i j l k in
-        subst (λ (a : Candidate). Precedes (r .rank) a d) (sym x) (subst (Precedes (r .rank) (at i)) (sym y) z);
-    number = listed-length net v (r .rank) by-sides;
+        let x : c ≡ at i = opens-same net (r .key) c (at i) o (opens i (omega arith)) (q ∙ side-at i) in
+        let y : d ≡ at j = opens-same net (r .key) d (at j) p (opens j k) (e ∙ side-at j) in
+        let z : Precedes (r .key) (at i) (at j) = each-at (Precedes (r .key)) noCandidate by (new-order net v (r .key) by-sides) i j l k in
+        subst (λ (a : Candidate). Precedes (r .key) a d) (sym x) (subst (Precedes (r .key) (at i)) (sym y) z);
+    number = listed-length net v (r .key) by-sides;
     counted = cs;
     counts = counts;
-    complete = λ more. complete net v (r .counting) cs counts (listed-is net v (r .rank) by-sides) (omega arith);
-    none-lighter = λ enough. none-lighter net v (r .counting) cs counts (r .rank) (omega arith);
+    complete = λ more. complete net v (r .counting) cs counts (listed-is net v (r .key) by-sides) (omega arith);
+    none-lighter = λ enough. none-lighter net v (r .counting) cs counts (r .key) (omega arith);
   }
     where
       cs : List Tree
@@ -106,51 +106,51 @@ module _ (net : Network) (v : Sound net) (r : Rules) (by-sides : BySides net (r 
       counts = counted-counts net (net .trees) (r .counting)
 
       by : List Candidate
-      by = keep (isNew net) (inOrder (r .rank) net)
+      by = keep (isNew net) (inOrder (r .key) net)
 
       at : ℕ → Candidate
       at i = getD by i noCandidate
 
-      length-by : length (listed (r .rank) net) ≡ length by
-      length-by = ap (λ (ss : List Side). length ss) (listed-new net v (r .rank) by-sides) ∙ length-map by (λ c. c .side)
+      length-by : length (listed (r .key) net) ≡ length by
+      length-by = ap (λ (ss : List Side). length ss) (listed-new net v (r .key) by-sides) ∙ length-map by (λ c. c .side)
 
-      side-at : (i : ℕ) → getD (listed (r .rank) net) i [] ≡ at i .side
-      side-at i = ap (λ (ss : List Side). getD ss i []) (listed-new net v (r .rank) by-sides) ∙ List·getD-map (λ (c : Candidate). c .side) by i noCandidate
+      side-at : (i : ℕ) → getD (listed (r .key) net) i [] ≡ at i .side
+      side-at i = ap (λ (ss : List Side). getD ss i []) (listed-new net v (r .key) by-sides) ∙ List·getD-map (λ (c : Candidate). c .side) by i noCandidate
 
-      opens : (i : ℕ) → i < length by → Opens (r .rank) net (at i)
-      opens i b = new-opens net v (r .rank) by-sides (at i) (at-mem noCandidate by i b)
+      opens : (i : ℕ) → i < length by → Opens (r .key) net (at i)
+      opens i b = new-opens net v (r .key) by-sides (at i) (at-mem noCandidate by i b)
 
   -- no other list is owed the same
-  pub owed-listed : (ss : List Side) → OwedList r net ss → ss ≡ listed (r .rank) net
+  pub owed-listed : (ss : List Side) → OwedList r net ss → ss ≡ listed (r .key) net
   owed-listed ss o =
       let p = listed-owed in
-      each-only (Met net (r .rank)) (met-one-way net (r .rank)) ss (listed (r .rank) net) (owed-met net r ss o) (owed-met net r (listed (r .rank) net) p)
+      each-only (Met net (r .key)) (met-one-way net (r .key)) ss (listed (r .key) net) (owed-met net r ss o) (owed-met net r (listed (r .key) net) p)
       (λ s. (λ m. p .holds s .1 (o .holds s .0 m), λ m. o .holds s .1 (p .holds s .0 m)))
 
   -- the list begins with the reported side
-  pub owed-first : (ss : List Side) → OwedList r net ss → getD ss 0 [] ≡ reported (r .rank) net .side
+  pub owed-first : (ss : List Side) → OwedList r net ss → getD ss 0 [] ≡ reported (r .key) net .side
   unfolding listed
-  owed-first ss o = go (mem-at [] (o .holds (best .side) .1 (listed-is net v (r .rank) by-sides (best .side) .0 inside)))
+  owed-first ss o = go (mem-at [] (o .holds (best .side) .1 (listed-is net v (r .key) by-sides (best .side) .0 inside)))
     where
       best : Candidate
-      best = reported (r .rank) net
+      best = reported (r .key) net
 
       among : List·Memᴰ best (candidates net)
-      among = first-in (reported-first net v (r .rank))
+      among = first-in (reported-first net v (r .key))
 
-      inside : List·Memᴰ (best .side) (listed (r .rank) net)
-      inside = fresh-in sameFlags sameFlags-tells [] (map (λ c. c .side) (inOrder (r .rank) net)) (Memᴰ·map (λ c. c .side) (inOrder-in net v (r .rank) by-sides best among refl)) (λ m. List·Memᴰ·not-nil m)
+      inside : List·Memᴰ (best .side) (listed (r .key) net)
+      inside = fresh-in sameFlags sameFlags-tells [] (map (λ c. c .side) (inOrder (r .key) net)) (Memᴰ·map (λ c. c .side) (inOrder-in net v (r .key) by-sides best among refl)) (λ m. List·Memᴰ·not-nil m)
 
-      opens : Opens (r .rank) net best
-      opens = record { listed = among; first = λ d m q. reported-precedes net v (r .rank) d m }
+      opens : Opens (r .key) net best
+      opens = record { listed = among; first = λ d m q. reported-precedes net v (r .key) d m }
 
       go : (i : ℕ) × (i < length ss) × (getD ss i [] ≡ best .side) → getD ss 0 [] ≡ best .side
       go (zero, b, e) = e
       go (suc i, b, e) =
           let c = o .met 0 (omega arith) in
           let l = o .in-order 0 (suc i) (omega arith) b (c .0) best (c .1) (c .2) opens (sym e) in
-          absurd (earlier (c .0) l (reported-precedes net v (r .rank) (c .0) (c .1 .listed)))
+          absurd (earlier (c .0) l (reported-precedes net v (r .key) (c .0) (c .1 .listed)))
         where
-          earlier : (c : Candidate) → Precedes (r .rank) c best → (c ≡ best) ⊎ Precedes (r .rank) best c → ⊥
-          earlier c l (inl q) = let k = subst (λ (d : Candidate). Precedes (r .rank) d best) q l in precedes-one-way (r .rank) best best k k
-          earlier c l (inr m) = precedes-one-way (r .rank) c best l m
+          earlier : (c : Candidate) → Precedes (r .key) c best → (c ≡ best) ⊎ Precedes (r .key) best c → ⊥
+          earlier c l (inl q) = let k = subst (λ (d : Candidate). Precedes (r .key) d best) q l in precedes-one-way (r .key) best best k k
+          earlier c l (inr m) = precedes-one-way (r .key) c best l m

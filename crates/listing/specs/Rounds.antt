@@ -2,7 +2,7 @@
 --   unshown net i s     the side s crosses more than two members of each of the first i trees
 --   isNew net c         so does the side of c of each tree before its own
 --   picked net w c      the candidate c weighs w and is new
---   newOnes k net       the new candidates of the reported weight, by the rank k, as they stand among all candidates
+--   newOnes k net       the new candidates of the reported weight, by the key k, as they stand among all candidates
 use Prim.Native.Nat.{ℕ}
 use mathlib.Core.Bool.{Bool, _&&_, not}
 use mathlib.Core.List.{List}
@@ -10,7 +10,7 @@ use lib.Dec.{leb}
 use Rattle.cuts.specs.Sums.{anyTo}
 use Rattle.cuts.specs.Network.{Network, treeAt}
 use Rattle.cuts.specs.Cut.{Side, crossings}
-use Rattle.cuts.specs.Candidate.{Candidate, Rank, candidates}
+use Rattle.cuts.specs.Candidate.{Candidate, Key, candidates}
 use Rattle.cuts.specs.Answer.{reported}
 use Rattle.listing.specs.Picks.{keep}
 use Rattle.listing.specs.Listing.{weighing}
@@ -24,6 +24,6 @@ isNew net c = unshown net (c .tree) (c .side)
 abbrev pub picked : Network → ℕ → Candidate → Bool
 picked net w c = weighing w c && isNew net c
 
-unfoldable pub newOnes : Rank → Network → List Candidate
+unfoldable pub newOnes : Key → Network → List Candidate
 unfolding keep candidates reported anyTo crossings
-newOnes rank net = keep (picked net (reported rank net .weight)) (candidates net)
+newOnes key net = keep (picked net (reported key net .weight)) (candidates net)

@@ -28,13 +28,13 @@ unfolding listReading
 list-accepted f sheet sides z =
     let d = decode-zero f sheet (of (decode f sheet) z) in
     let e = sheet-fitting f sheet sides (d .0) [] (d .1) in
-    (d .0, d .1, e ∙ room (d .0) (sym (ap numberOf e) ∙ z) (decLt (length sides) (areaLength (f .rules .rank) (d .0))))
+    (d .0, d .1, e ∙ room (d .0) (sym (ap numberOf e) ∙ z) (decLt (length sides) (areaLength (f .rules .key) (d .0))))
   where
     of : (r : Reading Network) → numberOf (andThen r (fitting f sides)) ≡ 0 → numberOf r ≡ 0
     of (accepted net rest) z = refl
     of (refused n) z = z
 
-    room : (net : Network) → numberOf (fitting f sides net []) ≡ 0 → Dec (length sides < areaLength (f .rules .rank) net) → fitting f sides net [] ≡ accepted net []
+    room : (net : Network) → numberOf (fitting f sides net []) ≡ 0 → Dec (length sides < areaLength (f .rules .key) net) → fitting f sides net [] ≡ accepted net []
     room net z (yes l) = let n = sym (ap numberOf (fitting-short f sides net [] l)) ∙ z in absurd (omega arith)
     room net z (no l) = fitting-room f sides net [] (omega arith)
 

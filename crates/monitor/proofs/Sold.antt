@@ -15,7 +15,7 @@ use Rattle.sheet.proofs.Plain.{marked, cutOff, plain}
 use Rattle.sheet.proofs.ReadingLaws.{unless-accepted}
 use Rattle.sheet.proofs.Acceptance.{decode-accepted}
 use Rattle.sheet.proofs.PlainLaws.{plain-same}
-use Rattle.sheet.proofs.Sold.{reads-as-trunked, reads-before, report-ranked}
+use Rattle.sheet.proofs.Sold.{reads-as-trunked, reads-before, report-reordered}
 use Rattle.monitor.specs.Entry.{areaChecks, reading, Reported}
 
 module _ (sheet side report side′ report′ : Bytes) (n : ℕ) where
@@ -54,7 +54,7 @@ module _ (sheet side report side′ report′ : Bytes) (n : ℕ) where
       same-report (refused m) = refl
 
 -- F-6: what is left of two calls with the same sheet and the same areas, by the order in force and by the older one
-pub record Reranked (side′ report′ side″ report″ : Bytes) (n m : ℕ) : Type 0 where
+pub record Reordered (side′ report′ side″ report″ : Bytes) (n m : ℕ) : Type 0 where
   pub number : n ≡ m
   -- the verdict
   pub verdict : take 1 report′ ≡ take 1 report″
@@ -64,12 +64,12 @@ pub record Reranked (side′ report′ side″ report″ : Bytes) (n m : ℕ) : 
   pub behind-side : drop 32 side′ ≡ drop 32 side″
 
 module _ (sheet side report side′ report′ side″ report″ : Bytes) (n m : ℕ) where
-  pub reported-ranked : Reported current sheet side report side′ report′ n → Reported trunked sheet side report side″ report″ m → Reranked side′ report′ side″ report″ n m
+  pub reported-reordered : Reported current sheet side report side′ report′ n → Reported trunked sheet side report side″ report″ m → Reordered side′ report′ side″ report″ n m
   unfolding reading areaChecks sideBytes
-  reported-ranked said older =
+  reported-reordered said older =
       let d : Reading Network = reading current sheet side report in
       let e : reading trunked sheet side report ≡ d = ap (unless (firstFailing (areaChecks current side report))) (sym (reads-as-trunked sheet)) in
-      let left = left-ranked d refl in
+      let left = left-reordered d refl in
       let r = older .report-is ∙ ap (reportLeft trunked report) e in
       record {
         number = said .number ∙ sym (older .number ∙ ap numberOf e);
@@ -78,11 +78,11 @@ module _ (sheet side report side′ report′ side″ report″ : Bytes) (n m : 
         behind-side = ap (drop 32) (said .side-is) ∙ left .2 ∙ sym (ap (drop 32) (older .side-is ∙ ap (sideLeft trunked side) e));
       }
     where
-      left-ranked : (d : Reading Network) → reading current sheet side report ≡ d
+      left-reordered : (d : Reading Network) → reading current sheet side report ≡ d
           → (take 1 (reportLeft current report d) ≡ take 1 (reportLeft trunked report d)) × (drop 8 (reportLeft current report d) ≡ drop 8 (reportLeft trunked report d))
           × (drop 32 (sideLeft current side d) ≡ drop 32 (sideLeft trunked side d))
-      left-ranked (refused n) e = (refl, refl, refl)
-      left-ranked (accepted net rest) e =
+      left-reordered (refused n) e = (refl, refl, refl)
+      left-reordered (accepted net rest) e =
           let v = decode-accepted current sheet net rest (unless-accepted (firstFailing (areaChecks current side report)) (decode current sheet) e .1) .sound in
-          let r = report-ranked net v report in
+          let r = report-reordered net v report in
           (r .0, r .1, refl)

@@ -13,8 +13,8 @@ use Rattle.cuts.specs.Network.{Link, Network, linkAt, linkCount}
 use Rattle.cuts.specs.Cut.{Side}
 use Rattle.cuts.specs.Limits.{mostLinks, fourBytes}
 use Rattle.sheet.specs.Bytes.{Bytes, mapBit}
-use Rattle.sheet.specs.Sheet.{Counts}
 use Rattle.sheet.specs.Areas.{sideRead}
+use Rattle.arrays.specs.declared.Layout.{Layout}
 use Rattle.arrays.specs.Lists.{entry, part}
 use Rattle.arrays.proofs.LinkLaws.{linksOf-length, linksOf-at}
 use Rattle.format.specs.Numbers.{Is}
@@ -36,39 +36,39 @@ pub record Turn (t : List (List ℕ)) (x y w : ℕ) (next : List (List ℕ)) : T
   pub apart : (x ≡ y → ⊥) → raised (raised t x y w) y x w ≡ next
 
 -- the table of the first k links that the arrays hold
-abbrev pub filledTo : Bytes → Bytes → Counts → List (List ℕ) → List ℕ → ℕ → List (List ℕ)
-filledTo first second c ends ws k = cornerTableTo k (bareNetwork c ends ws) (sideRead (c .nodes) first) (sideRead (c .nodes) second)
+abbrev pub filledTo : Bytes → Bytes → Layout → List (List ℕ) → List ℕ → ℕ → List (List ℕ)
+filledTo first second l ends ws k = cornerTableTo k (bareNetwork l ends ws) (sideRead (l .nodes) first) (sideRead (l .nodes) second)
 
-module _ (first second : Bytes) (c : Counts) (ends : List (List ℕ)) (ws : List ℕ) where
+module _ (first second : Bytes) (l : Layout) (ends : List (List ℕ)) (ws : List ℕ) where
   abbrev net : Network
-  net = bareNetwork c ends ws
+  net = bareNetwork l ends ws
 
   abbrev r : Side
-  r = sideRead (c .nodes) first
+  r = sideRead (l .nodes) first
 
   abbrev s : Side
-  s = sideRead (c .nodes) second
+  s = sideRead (l .nodes) second
 
   -- the corner of a node by its bits
   abbrev at : ℕ → ℕ
   at x = corner (mapBit first x) (mapBit second x)
 
-  pub none-filled : noTable ≡ filledTo first second c ends ws 0
+  pub none-filled : noTable ≡ filledTo first second l ends ws 0
   none-filled = sym (cornerTableTo-zero net r s)
 
-  module _ (f : Fillable first second (bareNetwork c ends ws)) where
-    all-links : linkCount net ≡ c .links
-    all-links = linksOf-length (c .links) (part ends 0) (part ends 1) ws
+  module _ (f : Fillable first second (bareNetwork l ends ws)) where
+    all-links : linkCount net ≡ l .links
+    all-links = linksOf-length (l .links) (part ends 0) (part ends 1) ws
 
-    pub few-links : c .links ≤ mostLinks
+    pub few-links : l .links ≤ mostLinks
     few-links = let e = all-links in let l = f .light .few in omega arith
 
-    pub all-filled : (k : ℕ) → k ≡ c .links → filledTo first second c ends ws k ≡ cornerTable net r s
+    pub all-filled : (k : ℕ) → k ≡ l .links → filledTo first second l ends ws k ≡ cornerTable net r s
     all-filled k e = ap (λ (m : ℕ). cornerTableTo m net r s) (e ∙ sym all-links) ∙ cornerTable-filled net r s (f .linked)
 
-    module _ (k : ℕ) (b : k < c .links) where
+    module _ (k : ℕ) (b : k < l .links) where
       link-is : linkAt net k ≡ record { first = entry (part ends 0) k; second = entry (part ends 1) k; weight = entry ws k }
-      link-is = linksOf-at (c .links) (part ends 0) (part ends 1) ws k b
+      link-is = linksOf-at (l .links) (part ends 0) (part ends 1) ws k b
 
       is-link : k < linkCount net
       is-link = rw all-links b
@@ -77,10 +77,10 @@ module _ (first second : Bytes) (c : Counts) (ends : List (List ℕ)) (ws : List
       weight-small = let e = ap (λ (l : Link). l .weight) link-is in let l = f .light .small k is-link in omega arith
 
       first-corner : cornerOf r s (linkAt net k .first) ≡ at (entry (part ends 0) k)
-      first-corner = corner-bits (c .nodes) first second (linkAt net k .first) (f .linked .first-in k is-link) ∙ ap (λ (l : Link). at (l .first)) link-is
+      first-corner = corner-bits (l .nodes) first second (linkAt net k .first) (f .linked .first-in k is-link) ∙ ap (λ (e : Link). at (e .first)) link-is
 
       second-corner : cornerOf r s (linkAt net k .second) ≡ at (entry (part ends 1) k)
-      second-corner = corner-bits (c .nodes) first second (linkAt net k .second) (f .linked .second-in k is-link) ∙ ap (λ (l : Link). at (l .second)) link-is
+      second-corner = corner-bits (l .nodes) first second (linkAt net k .second) (f .linked .second-in k is-link) ∙ ap (λ (e : Link). at (e .second)) link-is
 
       most : (i j : ℕ) → i < 4 → j < 4 → cell (cornerTableTo k net r s) i j ≤ k * fourBytes
       most i j p q = cornerTableTo-most net r s k fourBytes (λ m l. let a = f .light .small m (let d = is-link in omega arith) in omega arith) i j p q
@@ -109,7 +109,7 @@ module _ (first second : Bytes) (c : Counts) (ends : List (List ℕ)) (ws : List
                   ∙ cornerTableTo-raised net r s k x y p q n;
             }
 
-        pub turn : (t : List (List ℕ)) → t ≡ filledTo first second c ends ws k → Turn t x y (entry ws k) (filledTo first second c ends ws (suc k))
+        pub turn : (t : List (List ℕ)) → t ≡ filledTo first second l ends ws k → Turn t x y (entry ws k) (filledTo first second l ends ws (suc k))
         turn t e = subst (λ (t : List (List ℕ)). Turn t x y (entry ws k) (cornerTableTo (suc k) net r s)) (sym e) filled
 
 -- ---- rows one behind the other

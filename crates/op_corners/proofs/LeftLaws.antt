@@ -11,10 +11,11 @@ use Rattle.cuts.specs.Network.{Link, Tree, Network}
 use Rattle.cuts.specs.Cut.{Side}
 use Rattle.sheet.specs.Bytes.{Bytes}
 use Rattle.sheet.specs.Reading.{check, firstFailing, Reading, accepted, refused, numberOf}
-use Rattle.sheet.specs.Sheet.{Counts, current, network, decode}
+use Rattle.sheet.specs.Sheet.{current, network, decode}
 use Rattle.sheet.specs.Areas.{sideLength, sideRead}
 use Rattle.sheet.proofs.Acceptance.{decode-accepted}
 use Rattle.arrays.specs.Records.{networkAt}
+use Rattle.arrays.specs.declared.Layout.{Layout}
 use Rattle.corners.specs.Corners.{cornerTable, cornerWeight, Four}
 use Rattle.corners.specs.CornersTold.{noSide, sidesThere, cornerReading, noTable, tableLeft, tableRead, CornersTold}
 use Rattle.corners.proofs.CornerLaws.{cornerTable-four}
@@ -88,22 +89,22 @@ module _ (sheet first second : Bytes) where
         let r = cornerReading-refused current sheet first second (long .first-long) (long .second-long) n e in
         corners-told current sheet first second (sym (ap numberOf r)) (zeros-read ∙ sym (ap (tableLeft first second) r))
 
-    module _ (ends : List (List ℕ)) (ws : List ℕ) (c : Counts) (p : ℕ) (read : decode current sheet ≡ accepted (networkAt sheet ends ws c p) []) where
+    module _ (ends : List (List ℕ)) (ws : List ℕ) (l : Layout) (read : decode current sheet ≡ accepted (networkAt sheet ends ws l) []) where
       -- the network that was read has nodes and links as a sheet gives them
-      pub fillable : Fillable first second (bareNetwork c ends ws)
+      pub fillable : Fillable first second (bareNetwork l ends ws)
       fillable =
-          let a = decode-accepted current sheet (networkAt sheet ends ws c p) [] read in
-          let l = a .sound .linked in
+          let a = decode-accepted current sheet (networkAt sheet ends ws l) [] read in
+          let k = a .sound .linked in
           record {
             long = long;
             few-nodes = a .nodes-most;
-            linked = record { rooted = l .rooted; first-in = l .first-in; second-in = l .second-in };
-            light = record { few = a .links-most; small = λ k b. let w = a .weights-most k b in omega arith };
+            linked = record { rooted = k .rooted; first-in = k .first-in; second-in = k .second-in };
+            light = record { few = a .links-most; small = λ i b. let w = a .weights-most i b in omega arith };
           }
 
-      pub sides-decide : {t : List (List ℕ)} {n : ℕ} → TableLeft first second (sidesThere first second (bareNetwork c ends ws) []) t n → CornersTold current sheet first second t n
+      pub sides-decide : {t : List (List ℕ)} {n : ℕ} → TableLeft first second (sidesThere first second (bareNetwork l ends ws) []) t n → CornersTold current sheet first second t n
       sides-decide w =
-          let net : Network = networkAt sheet ends ws c p in
+          let net : Network = networkAt sheet ends ws l in
           let e = cornerReading-accepted current sheet first second (long .first-long) (long .second-long) net [] read in
           let v = any-trees first second (net .nodes) (net .links) [] (net .trees) w in
           corners-told current sheet first second (v .number ∙ sym (ap numberOf e)) (v .table-is ∙ sym (ap (tableLeft first second) e))

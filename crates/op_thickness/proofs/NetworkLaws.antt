@@ -14,10 +14,11 @@ use Rattle.cuts.specs.Sums.{table}
 use Rattle.cuts.specs.Network.{Link, Network, noLink, linkCount}
 use Rattle.cuts.proofs.FlagLaws.{truth}
 use Rattle.sheet.specs.Bytes.{Bytes, mapBit, number}
-use Rattle.sheet.specs.Sheet.{Format, Counts, treeLength, treeIn, network, Accepted}
+use Rattle.sheet.specs.Sheet.{Format, treeLength, treeIn, network, Accepted}
 use Rattle.arrays.specs.Lists.{part}
 use Rattle.arrays.specs.Links.{linksOf}
 use Rattle.arrays.specs.Records.{treesFrom, networkAt, SheetHeld}
+use Rattle.arrays.specs.declared.Layout.{Layout}
 use Rattle.arrays.proofs.LinkLaws.{linksOf-length, linksOf-at}
 use Rattle.reweighing.specs.Reweighed.{withWeight, reweigh}
 use Rattle.reweighing.proofs.ReweighLaws.{reweigh-accepted}
@@ -47,9 +48,6 @@ module _ (m : ℕ) (fs ss ws : List ℕ) (k x : ℕ) (is-link : k < m) (room : k
       ext-getD noLink (linksOf m fs ss (set ws k x)) (set held k (withWeight (getD held k noLink) x))
       (l ∙ sym (length-set held k _ ∙ linksOf-length m fs ss ws)) (λ j c. at-set j (omega arith))
 
-pub networkAt-links : (s : Bytes) (ends : List (List ℕ)) (ws : List ℕ) (c : Counts) (p : ℕ) → linkCount (networkAt s ends ws c p) ≡ c .links
-networkAt-links s ends ws c p = linksOf-length (c .links) (part ends 0) (part ends 1) ws
-
 -- the trees go by the number of links
 trees-same : (a b : Network) → linkCount a ≡ linkCount b → (n : ℕ) (bs : Bytes) → treesFrom a n bs ≡ treesFrom b n bs
 unfolding treesFrom treeIn
@@ -58,20 +56,22 @@ trees-same a b e n bs = λ i. table n (λ j. record {
   members = table (e i) (mapBit (drop 4 (drop (j * treeLength (e i)) bs)));
 })
 
-module _ (s : Bytes) (ends : List (List ℕ)) (ws : List ℕ) (c : Counts) (p k x : ℕ) (is-link : k < c .links) (room : k < length ws) where
-  pub networkAt-set : networkAt s ends (set ws k x) c p ≡ reweigh (networkAt s ends ws c p) k x
+module _ {f : Format} {s : Bytes} {ends : List (List ℕ)} {ws : List ℕ} {l : Layout} (h : SheetHeld f s ends ws l) (k x : ℕ) (is-link : k < l .links) where
+  pub networkAt-set : networkAt s ends (set ws k x) l ≡ reweigh (networkAt s ends ws l) k x
   unfolding reweigh
   networkAt-set =
-      let e = linksOf-set (c .links) (part ends 0) (part ends 1) ws k x is-link room in
-      let l = linksOf-length (c .links) (part ends 0) (part ends 1) (set ws k x) in
-      let m = linksOf-length (c .links) (part ends 0) (part ends 1) ws in
-      let t = trees-same (network (c .nodes) (linksOf (c .links) (part ends 0) (part ends 1) (set ws k x)) [])
-      (network (c .nodes) (linksOf (c .links) (part ends 0) (part ends 1) ws) []) (l ∙ sym m) (c .trees) (drop p s) in
-      λ i. network (c .nodes) (e i) (t i)
+      let e = linksOf-set (l .links) (part ends 0) (part ends 1) ws k x is-link (let r = h .arrays .weights-room in let m = h .few-links in omega arith) in
+      let a = linksOf-length (l .links) (part ends 0) (part ends 1) (set ws k x) in
+      let b = linksOf-length (l .links) (part ends 0) (part ends 1) ws in
+      let t = trees-same (network (l .nodes) (linksOf (l .links) (part ends 0) (part ends 1) (set ws k x)) [])
+      (network (l .nodes) (linksOf (l .links) (part ends 0) (part ends 1) ws) []) (a ∙ sym b) (l .trees) (drop (l .records) s) in
+      λ i. network (l .nodes) (e i) (t i)
 
-  pub held-set : {f : Format} → x ≤ f .weightLimit → SheetHeld f s ends ws c p → SheetHeld f s ends (set ws k x) c p
-  held-set {f} l h = record {
+  pub held-set : x ≤ f .weightLimit → SheetHeld f s ends (set ws k x) l
+  held-set m = record {
     inside = h .inside;
-    accepted = subst (Accepted f) (sym networkAt-set) (reweigh-accepted (networkAt s ends ws c p) k x l (h .accepted));
+    few-links = h .few-links;
+    few-trees = h .few-trees;
+    accepted = subst (Accepted f) (sym networkAt-set) (reweigh-accepted (networkAt s ends ws l) k x m (h .accepted));
     arrays = record { ends-room = h .arrays .ends-room; weights-room = length-set ws k x ∙ h .arrays .weights-room };
   }

@@ -13,65 +13,64 @@ use Rattle.cuts.specs.Candidate.{fewerNodes}
 use Rattle.cuts.specs.Answer.{reported}
 use Rattle.sheet.specs.Bytes.{Bytes}
 use Rattle.sheet.specs.Reading.{Reading, accepted, refused, numberOf}
-use Rattle.sheet.specs.Sheet.{Counts, current, decode}
+use Rattle.sheet.specs.Sheet.{current, decode}
 use Rattle.arrays.specs.Records.{networkAt, SheetHeld}
-use Rattle.search_order.specs.Choice.{Says}
-use Rattle.search_order.specs.declared.Found.{Found}
+use Rattle.arrays.specs.declared.Layout.{Layout}
+use Rattle.read_sheet.proofs.NetworkLaws.{networkAt-links}
+use Rattle.search_sheet.specs.Reported.{ReportedSays}
+use Rattle.search_sheet.specs.declared.Reported.{Reported}
 use Rattle.thickness.specs.Thickness.{mostWeight, weightWith}
 use Rattle.thickness.specs.ThicknessTold.{thicknessOf, figureLeft, ThicknessTold}
 use Rattle.thickness.proofs.ThicknessLaws.{weightWith-slow}
 use Rattle.thickness.proofs.ToldLaws.{thicknessOf-outside, thicknessOf-without, thicknessOf-above, thicknessOf-within, thicknessReading-refused, thicknessReading-accepted, thickness-told}
 use Rattle.op_thickness.specs.Figures.{FigureLeft}
-use Rattle.op_thickness.proofs.NetworkLaws.{networkAt-set, networkAt-links, held-set}
+use Rattle.op_thickness.proofs.NetworkLaws.{networkAt-set, held-set}
 
 left : {r q : Reading ℕ} {x n : ℕ} → r ≡ q → n ≡ numberOf q → x ≡ figureLeft q → FigureLeft r x n
 left e p z = record { number = p ∙ sym (ap numberOf e); figure-is = z ∙ sym (ap figureLeft e) }
 
-module _ {s : Bytes} {ends : List (List ℕ)} {ws : List ℕ} {c : Counts} {p : ℕ} (h : SheetHeld current s ends ws c p) (k wanted : ℕ) where
+module _ {s : Bytes} {ends : List (List ℕ)} {ws : List ℕ} {l : Layout} (h : SheetHeld current s ends ws l) (k wanted : ℕ) where
   abbrev net : Network
-  net = networkAt s ends ws c p
+  net = networkAt s ends ws l
 
-  pub outside : c .links ≤ k → FigureLeft (thicknessOf current k wanted net []) 0 18
-  outside l = left (thicknessOf-outside current k wanted net [] (rw (networkAt-links s ends ws c p) l)) refl refl
+  pub outside : l .links ≤ k → FigureLeft (thicknessOf current k wanted net []) 0 18
+  outside l = left (thicknessOf-outside current k wanted net [] (rw (networkAt-links h) l)) refl refl
 
-  module _ (inside : k < c .links) where
+  module _ (inside : k < l .links) where
     is-link : k < linkCount net
-    is-link = rw (networkAt-links s ends ws c p) inside
+    is-link = rw (networkAt-links h) inside
 
     pub room : k < mostLinks
-    room = let m = h .accepted .links-most in let b = is-link in omega arith
+    room = let m = h .few-links in omega arith
 
-    room′ : k < length ws
-    room′ = let m = room in let l = h .arrays .weights-room in omega arith
+    pub low-held : SheetHeld current s ends (set ws k 0) l
+    low-held = held-set h k 0 inside (omega arith)
 
-    pub low-held : SheetHeld current s ends (set ws k 0) c p
-    low-held = held-set s ends ws c p k 0 inside room′ (omega arith) h
+    pub high-held : SheetHeld current s ends (set (set ws k 0) k mostWeight) l
+    high-held = rw (set-set ws k 0 mostWeight) (held-set h k mostWeight inside (omega arith))
 
-    pub high-held : SheetHeld current s ends (set (set ws k 0) k mostWeight) c p
-    high-held = rw (set-set ws k 0 mostWeight) (held-set s ends ws c p k mostWeight inside room′ (omega arith) h)
+    weight-low : {low : Reported} → ReportedSays low (reported fewerNodes (networkAt s ends (set ws k 0) l)) → low .found .weight ≡ weightWith fewerNodes net k 0
+    weight-low w = w .says .weight ∙ ap (λ (m : Network). reported fewerNodes m .weight) (networkAt-set h k 0 inside)
 
-    weight-low : {low : Found} → Says low (reported fewerNodes (networkAt s ends (set ws k 0) c p)) → low .weight ≡ weightWith fewerNodes net k 0
-    weight-low w = w .weight ∙ ap (λ (m : Network). reported fewerNodes m .weight) (networkAt-set s ends ws c p k 0 inside room′)
-
-    weight-high : {high : Found} → Says high (reported fewerNodes (networkAt s ends (set (set ws k 0) k mostWeight) c p)) → high .weight ≡ weightWith fewerNodes net k mostWeight
+    weight-high : {high : Reported} → ReportedSays high (reported fewerNodes (networkAt s ends (set (set ws k 0) k mostWeight) l)) → high .found .weight ≡ weightWith fewerNodes net k mostWeight
     weight-high w =
-        w .weight ∙ ap (λ (vs : List ℕ). reported fewerNodes (networkAt s ends vs c p) .weight) (set-set ws k 0 mostWeight)
-        ∙ ap (λ (m : Network). reported fewerNodes m .weight) (networkAt-set s ends ws c p k mostWeight inside room′)
+        w .says .weight ∙ ap (λ (vs : List ℕ). reported fewerNodes (networkAt s ends vs l) .weight) (set-set ws k 0 mostWeight)
+        ∙ ap (λ (m : Network). reported fewerNodes m .weight) (networkAt-set h k mostWeight inside)
 
-    module _ {low : Found} (at-0 : Says low (reported fewerNodes (networkAt s ends (set ws k 0) c p))) where
-      pub enough : wanted ≤ low .weight → FigureLeft (thicknessOf current k wanted net []) 0 0
+    module _ {low : Reported} (at-0 : ReportedSays low (reported fewerNodes (networkAt s ends (set ws k 0) l))) where
+      pub enough : wanted ≤ low .found .weight → FigureLeft (thicknessOf current k wanted net []) 0 0
       enough l = left (thicknessOf-without current k wanted net [] is-link (h .accepted .sound) (let e = weight-low at-0 in omega arith)) refl refl
 
-      module _ {high : Found} (at-most : Says high (reported fewerNodes (networkAt s ends (set (set ws k 0) k mostWeight) c p))) where
-        pub beyond : high .weight < wanted → FigureLeft (thicknessOf current k wanted net []) 0 20
+      module _ {high : Reported} (at-most : ReportedSays high (reported fewerNodes (networkAt s ends (set (set ws k 0) k mostWeight) l))) where
+        pub beyond : high .found .weight < wanted → FigureLeft (thicknessOf current k wanted net []) 0 20
         beyond l = left (thicknessOf-above current k wanted net [] is-link (let e = weight-high at-most in omega arith)) refl refl
 
-        pub within : wanted ≤ high .weight → FigureLeft (thicknessOf current k wanted net []) (wanted - low .weight) 0
+        pub within : wanted ≤ high .found .weight → FigureLeft (thicknessOf current k wanted net []) (wanted - low .found .weight) 0
         within l =
             left (thicknessOf-within current k wanted net [] is-link (let e = weight-high at-most in omega arith)) refl (ap (λ (w : ℕ). wanted - w) (weight-low at-0))
 
         -- the figure has four bytes
-        pub fits : wanted ≤ high .weight → wanted - low .weight < 4_294_967_296
+        pub fits : wanted ≤ high .found .weight → wanted - low .found .weight < 4_294_967_296
         fits l =
             let a = weightWith-slow fewerNodes net (h .accepted .sound) k is-link mostWeight in
             let e = weight-high at-most in

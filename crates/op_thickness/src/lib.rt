@@ -1,8 +1,8 @@
 // How thick a cable must be: reads a sheet, and searches it with the link's weight at 0 and, where that does not decide, at the largest.
+use arrays::Layout;
 use format::limits::MOST_LINKS;
 use format::limits::MOST_WEIGHT;
 use format::refusals;
-use read_header::Counts;
 use read_sheet::Outcome;
 use read_sheet::read_sheet;
 use search_sheet::search_trees;
@@ -10,7 +10,6 @@ ghost use mathlib.Core.List.{[]};
 ghost use Rattle.sheet.specs.Sheet.{current};
 ghost use Rattle.arrays.specs.Links.{LinkArrays};
 ghost use Rattle.arrays.specs.Records.{networkAt, SheetHeld};
-ghost use Rattle.read_header.specs.HeaderRead.{countsOf};
 ghost use Rattle.thickness.specs.ThicknessTold.{thicknessOf, ThicknessTold};
 ghost use Rattle.op_thickness.specs.Figures.{FigureLeft};
 
@@ -19,30 +18,28 @@ ghost use Rattle.op_thickness.specs.Figures.{FigureLeft};
 fn network_thickness(
     figure: &mut u32,
     s: &[u8],
-    at: usize,
-    c: Counts,
+    l: Layout,
     ends: &[[u8; MOST_LINKS]; 2],
     weights: &mut [u32; MOST_LINKS],
     link: usize,
     wanted: u64,
 ) -> u32
-    requires { ⌜ SheetHeld current (now s) (now ends) (now weights) (countsOf c) at ⌝ }
+    requires { ⌜ SheetHeld current (now s) (now ends) (now weights) l ⌝ }
     ensures { λ r. ⌜ FigureLeft (thicknessOf current link wanted
-        (networkAt (now (s .entry)) (now (ends .entry)) (now (weights .entry)) (countsOf c) at) [])
+        (networkAt (now (s .entry)) (now (ends .entry)) (now (weights .entry)) l) [])
         (now (figure .exit)) r ⌝ }
 {
     *figure = 0;
-    let links = c.links;
-    if link >= links {
+    if link >= l.links {
         return refusals::NO_LINK;
     }
     weights[link] = 0;
-    let low = search_trees(s, at, c, ends, weights).weight;
+    let low = search_trees(s, l, ends, weights).found.weight;
     if wanted <= low {
         return 0;
     }
     weights[link] = MOST_WEIGHT;
-    let high = search_trees(s, at, c, ends, weights).weight;
+    let high = search_trees(s, l, ends, weights).found.weight;
     if high < wanted {
         return refusals::OUT_OF_REACH;
     }
@@ -64,16 +61,7 @@ pub fn sheet_thickness(
     ensures { λ r. ⌜ ThicknessTold current (now (sheet .entry)) link wanted (now (figure .exit)) r ⌝ }
 {
     match read_sheet(ends, weights, sheet) {
-        Outcome::Read(c, at) => network_thickness(
-            figure,
-            sheet,
-            at,
-            c,
-            ends,
-            weights,
-            link,
-            wanted,
-        ),
+        Outcome::Read(l) => network_thickness(figure, sheet, l, ends, weights, link, wanted),
         Outcome::Refused(n) => {
             *figure = 0;
             n

@@ -15,8 +15,8 @@ pub fn read_trunks(numbers: &mut [u16; MOST_LINKS], sheet: &[u8]) -> u32
     let mut ends = [[0u8; MOST_LINKS]; 2];
     let mut weights = [0u32; MOST_LINKS];
     match read_sheet(&mut ends, &mut weights, sheet) {
-        Outcome::Read(c, _) => {
-            trunk_numbers(numbers, sheet, HEADER_LENGTH, c.links);
+        Outcome::Read(l) => {
+            trunk_numbers(numbers, sheet, HEADER_LENGTH, l.links);
             0
         }
         Outcome::Refused(n) => n,

@@ -26,6 +26,7 @@ use Rattle.arrays.specs.Lists.{entry}
 use Rattle.arrays.specs.Links.{Weighed}
 use Rattle.sheet.specs.Bytes.{Bytes, number, mapBit}
 use Rattle.sheet.specs.Sheet.{mapLength, treeLength, treeIn}
+use Rattle.arrays.specs.declared.Layout.{Layout}
 use Rattle.arrays.specs.Records.{treesFrom}
 use Rattle.read_sheet.proofs.TreeLaws.{members-at, treesFrom-more, record-inside}
 use Rattle.packing.specs.Loads.{overfull, ShareAdded, mostShares, Totals, TreesCounted}
@@ -80,33 +81,33 @@ module _ (map : Bytes) (share : ℕ) (ws loads : List ℕ) where
 
 -- ---- one tree more
 
-module _ (net : Network) (s map : Bytes) (at place i : ℕ) (here : place ≡ at + i * treeLength (linkCount net))
-    (slice : map ≡ take (mapLength (linkCount net)) (drop (place + 4) s)) (whole : place + treeLength (linkCount net) ≤ length s) where
-  trees-next : treesFrom net (i + 1) (drop at s) ≡ treesFrom net i (drop at s) ++ treeIn net (drop place s) ∷ []
+module _ (net : Network) (s map : Bytes) (at position i : ℕ) (here : position ≡ at + i * treeLength (linkCount net))
+    (slice : map ≡ take (mapLength (linkCount net)) (drop (position + 4) s)) (whole : position + treeLength (linkCount net) ≤ length s) where
+  trees-next : treesFrom net (i + 1) (drop at s) ≡ treesFrom net i (drop at s) ++ treeIn net (drop position s) ∷ []
   trees-next = rw (treesFrom-more net i (drop at s), drop-drop (i * treeLength (linkCount net)) at s, ← here)
 
-  share-is : treeIn net (drop place s) .share ≡ number 4 (drop place s)
+  share-is : treeIn net (drop position s) .share ≡ number 4 (drop position s)
   unfolding treeIn
   share-is = refl
 
   load-next : (k : ℕ) → k < linkCount net
-      → load (treesFrom net (i + 1) (drop at s)) k ≡ load (treesFrom net i (drop at s)) k + only (mapBit map k) (number 4 (drop place s))
+      → load (treesFrom net (i + 1) (drop at s)) k ≡ load (treesFrom net i (drop at s)) k + only (mapBit map k) (number 4 (drop position s))
   load-next k b =
       rw (
         trees-next,
-        load-append (treesFrom net i (drop at s)) (treeIn net (drop place s)) k,
-        members-at net s map place slice whole,
+        load-append (treesFrom net i (drop at s)) (treeIn net (drop position s)) k,
+        members-at net s map position slice whole,
         table-at false (linkCount net) (mapBit map) k b,
         share-is,
       )
 
-  shares-next : shares (treesFrom net (i + 1) (drop at s)) ≡ shares (treesFrom net i (drop at s)) + number 4 (drop place s)
-  shares-next = rw (trees-next, shares-append (treesFrom net i (drop at s)) (treeIn net (drop place s)), share-is)
+  shares-next : shares (treesFrom net (i + 1) (drop at s)) ≡ shares (treesFrom net i (drop at s)) + number 4 (drop position s)
+  shares-next = rw (trees-next, shares-append (treesFrom net i (drop at s)) (treeIn net (drop position s)), share-is)
 
--- the first i of the tree records from the position `at` on count: `place` is the position behind them, the loads and the sum are theirs,
+-- the first i of the tree records from the position `at` on count: `position` is the position behind them, the loads and the sum are theirs,
 -- and no load is past its link's weight; no share is above 2^32 - 1
-pub record Loaded (s : Bytes) (ws : List ℕ) (at links : ℕ) (loads : List ℕ) (sum place i : ℕ) : Type 0 where
-  pub placed : place ≡ at + i * treeLength links
+pub record Loaded (s : Bytes) (ws : List ℕ) (at links : ℕ) (loads : List ℕ) (sum position i : ℕ) : Type 0 where
+  pub standing : position ≡ at + i * treeLength links
   pub sized : length loads ≡ mostLinks
   pub carried : (k : ℕ) → k < links → entry loads k ≤ entry ws k
   pub small : sum ≤ i * (fourBytes - 1)
@@ -116,7 +117,7 @@ pub record Loaded (s : Bytes) (ws : List ℕ) (at links : ℕ) (loads : List ℕ
 pub loaded-none : (s : Bytes) (ws : List ℕ) (at links n : ℕ) → n ≡ mostLinks → links ≤ n → Loaded s ws at links (replicate n 0) 0 at 0
 unfolding treesFrom table load shares
 loaded-none s ws at links n e few = record {
-  placed = rw zero-mul (omega arith);
+  standing = rw zero-mul (omega arith);
   sized = length-replicate {A = ℕ} n 0 ∙ e;
   carried = λ k b. omega (arith, none k b);
   small = omega arith;
@@ -131,27 +132,27 @@ loaded-none s ws at links n e few = record {
 abbrev Overfilled : Bytes → List ℕ → ℕ → ℕ → ℕ → Type 0
 Overfilled s ws at links i = (net : Network) → Weighed net ws links → Overloads net (treesFrom net (i + 1) (drop at s))
 
-module _ {s : Bytes} {ws : List ℕ} {at links : ℕ} {loads : List ℕ} {sum place i : ℕ} (l : Loaded s ws at links loads sum place i) where
+module _ {s : Bytes} {ws : List ℕ} {at links : ℕ} {loads : List ℕ} {sum position i : ℕ} (l : Loaded s ws at links loads sum position i) where
   -- the next of `trees` records ends within the sheet
-  pub record-within : (trees : ℕ) → i < trees → at + trees * treeLength links ≤ length s → place + treeLength links ≤ length s
-  record-within trees b h = let r = record-inside at trees (treeLength links) (length s) i h b in let p = l .placed in omega arith
+  pub record-within : (trees : ℕ) → i < trees → at + trees * treeLength links ≤ length s → position + treeLength links ≤ length s
+  record-within trees b h = let r = record-inside at trees (treeLength links) (length s) i h b in let p = l .standing in omega arith
 
-  module _ {map : Bytes} {share : ℕ} (slice : map ≡ take (mapLength links) (drop (place + 4) s)) (whole : place + treeLength links ≤ length s)
-      (is : share ≡ number 4 (drop place s)) where
+  module _ {map : Bytes} {share : ℕ} (slice : map ≡ take (mapLength links) (drop (position + 4) s)) (whole : position + treeLength links ≤ length s)
+      (is : share ≡ number 4 (drop position s)) where
     bears-more : (net : Network) → linkCount net ≡ links → (k : ℕ) → k < links
         → entry loads k + only (mapBit map k) share ≡ load (treesFrom net (i + 1) (drop at s)) k
-    bears-more net n k b = rw (l .bears net n k b, is) (sym (load-next net s map at place i (rw n (l .placed)) (rw n slice) (rw n whole) k (rw n b)))
+    bears-more net n k b = rw (l .bears net n k b, is) (sym (load-next net s map at position i (rw n (l .standing)) (rw n slice) (rw n whole) k (rw n b)))
 
     -- the next tree counts
     loaded-more : share < fourBytes → anyTo links (overfull map share ws loads) ≡ false → (next : List ℕ) → ShareAdded map share loads next links
-        → length next ≡ length loads → (end : ℕ) → end ≡ place + treeLength links → Loaded s ws at links next (sum + share) end (i + 1)
+        → length next ≡ length loads → (end : ℕ) → end ≡ position + treeLength links → Loaded s ws at links next (sum + share) end (i + 1)
     loaded-more low none next a same end e = record {
-      placed = rw (add-one, suc-mul) (let p = l .placed in omega arith);
+      standing = rw (add-one, suc-mul) (let p = l .standing in omega arith);
       sized = same ∙ l .sized;
       carried = λ k b. rw (a .below k b) (has-room map share ws loads links none k b (l .carried k b));
       small = let b = l .small in omega arith;
       bears = λ net n k b. a .below k b ∙ bears-more net n k b;
-      adds = λ net n. rw (l .adds net n, is) (sym (shares-next net s map at place i (rw n (l .placed)) (rw n slice) (rw n whole)));
+      adds = λ net n. rw (l .adds net n, is) (sym (shares-next net s map at position i (rw n (l .standing)) (rw n slice) (rw n whole)));
     }
 
     -- or it would load a link past its weight
@@ -167,9 +168,9 @@ module _ {s : Bytes} {ws : List ℕ} {at links : ℕ} {loads : List ℕ} {sum pl
         (k, b, omega (arith, w .weights k b))
 
   -- and the loads stay
-  loaded-same : (map : Bytes) (next : List ℕ) → ShareAdded map 0 loads next links → length next ≡ length loads → Loaded s ws at links next sum place i
+  loaded-same : (map : Bytes) (next : List ℕ) → ShareAdded map 0 loads next links → length next ≡ length loads → Loaded s ws at links next sum position i
   loaded-same map next a same = record {
-    placed = l .placed;
+    standing = l .standing;
     sized = same ∙ l .sized;
     carried = λ k b. let e = kept k b in let c = l .carried k b in omega arith;
     small = l .small;
@@ -191,7 +192,7 @@ module _ (net : Network) (s : Bytes) (at trees : ℕ) where
   unfolding treesFrom
   trees-length = table-length trees (λ j. treeIn net (drop (j * treeLength (linkCount net)) (drop at s)))
 
-module _ {s : Bytes} {ws : List ℕ} {at links : ℕ} {loads : List ℕ} {sum place n : ℕ} (trees : ℕ) (l : Loaded s ws at links loads sum place n) where
+module _ {s : Bytes} {ws : List ℕ} {at links : ℕ} {loads : List ℕ} {sum position n : ℕ} (trees : ℕ) (l : Loaded s ws at links loads sum position n) where
   totals-are : n ≤ trees → (net : Network) → Weighed net ws links → (n ≡ trees) ⊎ Overloads net (take (suc n) (treesFrom net trees (drop at s)))
       → Totals net (treesFrom net trees (drop at s)) links loads sum
   totals-are b net w full =
@@ -222,35 +223,37 @@ module _ {s : Bytes} {ws : List ℕ} {at links : ℕ} {loads : List ℕ} {sum pl
 -- ---- how far counting is
 
 -- the trees before i count, or the run ended at the tree before i, which is `stop`
-pub data Progress (s : Bytes) (ws : List ℕ) (at links trees : ℕ) (loads : List ℕ) (sum place stop i : ℕ) : Type 0 where
-  going : Loaded s ws at links loads sum place i → stop ≡ trees → i ≤ trees → Progress s ws at links trees loads sum place stop i
+pub data Progress (s : Bytes) (ws : List ℕ) (at links trees : ℕ) (loads : List ℕ) (sum position stop i : ℕ) : Type 0 where
+  going : Loaded s ws at links loads sum position i → stop ≡ trees → i ≤ trees → Progress s ws at links trees loads sum position stop i
   ended : (p : ℕ) → Loaded s ws at links loads sum p stop → Overfilled s ws at links stop → stop < trees → i ≡ stop + 1
-      → Progress s ws at links trees loads sum place stop i
+      → Progress s ws at links trees loads sum position stop i
 
-module _ {s : Bytes} {ws : List ℕ} {at links trees : ℕ} {loads : List ℕ} {sum place stop i : ℕ} where
-  pub still-going : Progress s ws at links trees loads sum place stop i → i < stop → Loaded s ws at links loads sum place i × (stop ≡ trees)
+module _ {s : Bytes} {ws : List ℕ} {at links trees : ℕ} {loads : List ℕ} {sum position stop i : ℕ} where
+  pub still-going : Progress s ws at links trees loads sum position stop i → i < stop → Loaded s ws at links loads sum position i × (stop ≡ trees)
   still-going (going l e b) m = (l, e)
   still-going (ended p l o b e) m = absurd (omega arith)
 
-  pub sum-small : Progress s ws at links trees loads sum place stop i → trees ≤ mostTrees → sum ≤ mostShares
+  pub sum-small : Progress s ws at links trees loads sum position stop i → trees ≤ mostTrees → sum ≤ mostShares
   sum-small (going l e b) m = let a = l .small in omega arith
   sum-small (ended p l o b e) m = let a = l .small in omega arith
 
-  pub all-counted : Progress s ws at links trees loads sum place stop i → stop ≤ i → trees ≤ mostTrees → TreesCounted s at links trees ws loads sum
-  all-counted p m few = record { totals = by-case p; most = sum-small p few }
-    where
-      by-case : Progress s ws at links trees loads sum place stop i → (net : Network) → Weighed net ws links → Totals net (treesFrom net trees (drop at s)) links loads sum
-      by-case (going l e b) = all-totals trees l (omega arith)
-      by-case (ended q l o b e) = run-totals trees l b o
+pub all-counted : {s : Bytes} {l : Layout} {ws loads : List ℕ} {sum position stop i : ℕ} → Progress s ws (l .records) (l .links) (l .trees) loads sum position stop i
+    → stop ≤ i → l .trees ≤ mostTrees → TreesCounted s l ws loads sum
+all-counted {s} {l} {ws} {loads} {sum} {position} {stop} {i} p m few = record { totals = by-case p; most = sum-small p few }
+  where
+    by-case : Progress s ws (l .records) (l .links) (l .trees) loads sum position stop i → (net : Network) → Weighed net ws (l .links)
+        → Totals net (treesFrom net (l .trees) (drop (l .records) s)) (l .links) loads sum
+    by-case (going x e b) = all-totals (l .trees) x (omega arith)
+    by-case (ended q x o b e) = run-totals (l .trees) x b o
 
 -- a turn: the next tree was tested, and its share added where it counts
-module _ {s : Bytes} {ws : List ℕ} {at links : ℕ} {loads : List ℕ} {sum place i : ℕ} (l : Loaded s ws at links loads sum place i)
-    {map : Bytes} {share : ℕ} (slice : map ≡ take (mapLength links) (drop (place + 4) s)) (whole : place + treeLength links ≤ length s)
-    (is : share ≡ number 4 (drop place s)) {counts : Bool} (tested : counts ≡ not (anyTo links (overfull map share ws loads)))
+module _ {s : Bytes} {ws : List ℕ} {at links : ℕ} {loads : List ℕ} {sum position i : ℕ} (l : Loaded s ws at links loads sum position i)
+    {map : Bytes} {share : ℕ} (slice : map ≡ take (mapLength links) (drop (position + 4) s)) (whole : position + treeLength links ≤ length s)
+    (is : share ≡ number 4 (drop position s)) {counts : Bool} (tested : counts ≡ not (anyTo links (overfull map share ws loads)))
     {next : List ℕ} (a : ShareAdded map (only counts share) loads next links) (same : length next ≡ length loads) {trees : ℕ} (more : i < trees) (end : ℕ) where
-  pub turn-counts : counts ≡ true → share < fourBytes → end ≡ place + treeLength links → {stop : ℕ} → stop ≡ trees
+  pub turn-counts : counts ≡ true → share < fourBytes → end ≡ position + treeLength links → {stop : ℕ} → stop ≡ trees
       → Progress s ws at links trees next (sum + share) end stop (i + 1)
   turn-counts h low e f = going (loaded-more l slice whole is low (not-true _ (sym tested ∙ h)) next (rw h at a) same end e) f (omega arith)
 
   pub turn-ends : counts ≡ false → Progress s ws at links trees next sum end i (i + 1)
-  turn-ends h = ended place (loaded-same l map next (rw h at a) same) (overfilled l slice whole is (not-false _ (sym tested ∙ h))) more refl
+  turn-ends h = ended position (loaded-same l map next (rw h at a) same) (overfilled l slice whole is (not-false _ (sym tested ∙ h))) more refl

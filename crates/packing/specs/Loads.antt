@@ -1,6 +1,6 @@
 -- What arrays of weights and loads say while trees are counted. Assumes nothing.
---   TreesThere s at links trees       the sheet s has so many tree records, for so many links, from the position `at` on, and no more of
---                                     either than a sheet can have
+--   TreesThere s l                    the sheet s has the tree records that the layout l says, and no more of them and of links than a sheet
+--                                     can have
 --   Loading links map ws loads        a map of so many links, their weights and their loads, none of which is past its link's weight
 --   overfull map share ws loads k     the tree with that map holds link k, and its share would load the link past its weight
 --   Roomy links map share loads       with the share added at each link that the tree with that map holds, four bytes hold every load
@@ -8,9 +8,9 @@
 --                                     that map holds, and from k on they are the same
 --   TreeTested map links ws share bef aft r   r says whether the tree with that map and share counts, and its share was added if so
 --   mostShares                        the shares of as many trees as a sheet can have, of four bytes each, add up to no more
---   Unloaded loads s at links trees   such records are there, and no link has any load yet
+--   Unloaded loads s l                such records are there, and no link has any load yet
 --   Totals net ts links loads sum     the loads and the sum of shares are those of the trees of ts that count
---   TreesCounted s at links trees ws loads sum   the same of those records, for every network with such links
+--   TreesCounted s l ws loads sum     the same of those records, for every network with such links
 use Prim.Native.Nat.{ℕ, _+_, _-_, _*_, _≤_, _<_}
 use mathlib.Core.Path.{_≡_}
 use mathlib.Core.Bool.{Bool, _&&_, not}
@@ -25,12 +25,13 @@ use Rattle.arrays.specs.Lists.{entry}
 use Rattle.arrays.specs.Links.{Weighed}
 use Rattle.sheet.specs.Bytes.{Bytes, mapBit}
 use Rattle.sheet.specs.Sheet.{current}
-use Rattle.arrays.specs.Records.{treesFrom, recordAt}
+use Rattle.arrays.specs.Records.{treesFrom, recordOf}
+use Rattle.arrays.specs.declared.Layout.{Layout}
 
-pub record TreesThere (s : Bytes) (at links trees : ℕ) : Type 0 where
-  pub inside : recordAt links at trees ≤ length s
-  pub few-links : links ≤ mostLinks
-  pub few-trees : trees ≤ mostTrees
+pub record TreesThere (s : Bytes) (l : Layout) : Type 0 where
+  pub inside : recordOf l (l .trees) ≤ length s
+  pub few-links : l .links ≤ mostLinks
+  pub few-trees : l .trees ≤ mostTrees
 
 -- ---- one tree
 
@@ -65,10 +66,10 @@ pub record Totals (net : Network) (ts : List Tree) (links : ℕ) (loads : List �
   pub sums : sum ≡ shares (counted (current .rules .counting) net ts)
   pub bears : (k : ℕ) → k < links → entry loads k ≡ load (counted (current .rules .counting) net ts) k
 
-pub record Unloaded (loads : List ℕ) (s : Bytes) (at links trees : ℕ) : Type 0 where
-  pub trees-there : TreesThere s at links trees
+pub record Unloaded (loads : List ℕ) (s : Bytes) (l : Layout) : Type 0 where
+  pub trees-there : TreesThere s l
   pub none : loads ≡ replicate mostLinks 0
 
-pub record TreesCounted (s : Bytes) (at links trees : ℕ) (ws loads : List ℕ) (sum : ℕ) : Type 0 where
-  pub totals : (net : Network) → Weighed net ws links → Totals net (treesFrom net trees (drop at s)) links loads sum
+pub record TreesCounted (s : Bytes) (l : Layout) (ws loads : List ℕ) (sum : ℕ) : Type 0 where
+  pub totals : (net : Network) → Weighed net ws (l .links) → Totals net (treesFrom net (l .trees) (drop (l .records) s)) (l .links) loads sum
   pub most : sum ≤ mostShares

@@ -1,8 +1,8 @@
 // The packing bound: which trees count, the load that they put on each link, and the floor and the verdict that follow.
+use arrays::Layout;
 use format::limits::MOST_LINKS;
 use format::maps::bit_set;
 use format::numbers::four;
-use read_header::Counts;
 use read_sheet::tree_records::record_at;
 use read_sheet::tree_records::tree_map;
 ghost use mathlib.Core.Path.{_≡_};
@@ -63,29 +63,25 @@ fn count_tree(loads: &mut [u32], map: &[u8], links: usize, weights: &[u32], shar
     counts
 }
 
-// Counts trees, of the tree records at a position, up to the first that would load a link past its weight. No link has any load yet;
-// afterwards the links have the loads of the trees that count. Answers the sum of their shares.
+// Counts the trees of a sheet up to the first that would load a link past its weight. No link has any load yet; afterwards the links have the
+// loads of the trees that count. Answers the sum of their shares.
 fn count_trees(
     loads: &mut [u32; MOST_LINKS],
     s: &[u8],
-    at: usize,
-    c: Counts,
+    l: Layout,
     weights: &[u32; MOST_LINKS],
 ) -> u64
-    requires { ⌜ Unloaded (now loads) (now s) at (c .links) (c .trees) ⌝ }
-    ensures { λ r. ⌜ TreesCounted (now (s .entry)) at (c .links) (c .trees)
-        (now (weights .entry)) (now (loads .exit)) r ⌝ }
+    requires { ⌜ Unloaded (now loads) (now s) l ⌝ }
+    ensures { λ r. ⌜ TreesCounted (now (s .entry)) l (now (weights .entry)) (now (loads .exit)) r ⌝ }
 {
-    let links = c.links;
-    let trees = c.trees;
     let mut sum: u64 = 0;
-    let mut stop = trees;
+    let mut stop = l.trees;
     let mut i = 0;
     while i < stop {
-        let place = record_at(at, links, i);
-        let share = four(s, place);
-        let map = tree_map(s, place, links);
-        if count_tree(loads, map, links, weights, share) {
+        let at = record_at(l.records, l.links, i);
+        let share = four(s, at);
+        let map = tree_map(s, at, l.links);
+        if count_tree(loads, map, l.links, weights, share) {
             sum += share as u64;
         } else {
             stop = i;
@@ -104,15 +100,15 @@ fn floor_from(shares: u64, weight: u64) -> u64
     if weight < bound { weight } else { bound }
 }
 
-// The floor that the tree records at a position give, where `weight` is that of the cut found.
-pub fn floor_of(s: &[u8], at: usize, c: Counts, weights: &[u32; MOST_LINKS], weight: u64) -> u64
-    requires { ⌜ TreesThere (now s) at (c .links) (c .trees) ⌝ }
-    ensures { λ r. ⌜ ((net : Network) → Weighed net (now (weights .entry)) (c .links)
+// The floor that the trees of a sheet give, where `weight` is that of the cut found.
+pub fn floor_of(s: &[u8], l: Layout, weights: &[u32; MOST_LINKS], weight: u64) -> u64
+    requires { ⌜ TreesThere (now s) l ⌝ }
+    ensures { λ r. ⌜ ((net : Network) → Weighed net (now (weights .entry)) (l .links)
         → r ≡ floor (counted (current .rules .counting) net
-        (treesFrom net (c .trees) (drop at (now (s .entry))))) weight) ⌝ }
+        (treesFrom net (l .trees) (drop (l .records) (now (s .entry))))) weight) ⌝ }
 {
     let mut loads = [0u32; MOST_LINKS];
-    let shares = count_trees(&mut loads, s, at, c, weights);
+    let shares = count_trees(&mut loads, s, l, weights);
     floor_from(shares, weight)
 }
 

@@ -48,7 +48,7 @@ answerLines-back : (f : Format) (net : Network) (side report : Bytes) → answer
     → answerLines (answerRead f 256 (sideAfter f net side) (reportAfter f net report)) ≡ answerLines (answer (f .rules) net)
 unfolding answer answerLines answerRead sideRead sideBytes
 answerLines-back f net side report back =
-    let test : ℕ → Bool = flag (reported (f .rules .rank) net .side) in
+    let test : ℕ → Bool = flag (reported (f .rules .key) net .side) in
     let area : Bytes = sideAfter f net side in
     ap₂ (λ (a : Answer) (ns : List Text). line answerWord (answerFields a) ++ line sideWord ns) back
     (sideFields-select (sideRead 256 area) test (λ k b. table-at false 256 (mapBit area) k b ∙ mapBit-table 32 test (drop 32 side) k (omega arith)))

@@ -100,9 +100,9 @@ pub record Reordered (lines older : Text) : Type 0 where
   pub count-no-more : answered .best .count ≤ before .best .count
 
 -- every accepted sheet prints such lines, and every other the same
-pub lines-ranked : (sheet : Bytes) (net : Network) (rest : Bytes) → decode current sheet ≡ accepted net rest → Reordered (prints current sheet) (prints trunked sheet)
+pub lines-reordered : (sheet : Bytes) (net : Network) (rest : Bytes) → decode current sheet ≡ accepted net rest → Reordered (prints current sheet) (prints trunked sheet)
 unfolding answer judged
-lines-ranked sheet net rest e =
+lines-reordered sheet net rest e =
     let v = decode-accepted current sheet net rest e .sound in
     let same = ranks-agree net v longestRun fewerNodes alike in
     record {
@@ -116,5 +116,5 @@ lines-ranked sheet net rest e =
       count-no-more = count-no-more net v;
     }
 
-pub refusal-ranked : (sheet : Bytes) (n : ℕ) → decode current sheet ≡ refused n → prints current sheet ≡ prints trunked sheet
-refusal-ranked sheet n e = ap (output current) e ∙ sym (ap (output trunked) (sym (reads-as-trunked sheet) ∙ e))
+pub refusal-reordered : (sheet : Bytes) (n : ℕ) → decode current sheet ≡ refused n → prints current sheet ≡ prints trunked sheet
+refusal-reordered sheet n e = ap (output current) e ∙ sym (ap (output trunked) (sym (reads-as-trunked sheet) ∙ e))

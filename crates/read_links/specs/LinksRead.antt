@@ -1,17 +1,19 @@
 -- What the answers and arrays of this crate's functions say, case by case: the link read and the bytes behind it, or document 01's
 -- number. Assumes nothing.
---   fieldsSay r                   the refusal number of a map byte and the bytes of the fields behind it, as r says them
---   fieldsOf f m                  the same of the map byte m, by the definition of the format f
---   linkOf l                      the link that the struct holds
---   linkSays s r                  what r says where it answers to reading a link from s
---   LinkInside s r                the position behind the link lies in s
---   RecordEnds f start s p r      r says where the link record at position p of s ends, or the number of the first check of its shape that
---                                 fails; `start`: it is link 0's
---   LinkRead f n start b s p r    r says what the link record at position p of s is read as, where b is the link before it
---   LinksReadable s p n k es ws   k links of n nodes, from position p of s on, can be read into these arrays
---   LinksRead f s p n k es ws r   they are in the arrays, or r says the refusal
---   LinksThere f s p k            k link records stand from position p of s on, and all are read in the format f
---   TrunksReadable f s p k ns     so it is, and ns has room for their trunk numbers
+--   fieldsSay r                             the refusal number of a map byte and the bytes of the fields behind it, as r says them
+--   fieldsOf f m                            the same of the map byte m, by the definition of the format f
+--   linkOf l                                the link that the struct holds
+--   linkSays s r                            what r says where it answers to reading a link from s
+--   LinkInside s r                          the position behind the link lies in s
+--   RecordEnds f start s at r               r says where the link record at position `at` of s ends, or the number of the first check of its shape
+--                                           that fails; `start`: it is link 0's
+--   LinkRead f nodes start before s at r    r says what the link record at position `at` of s is read as, where `before` is the link before it
+--   LinksReadable s from nodes count ends weights
+--                                           `count` links of so many nodes, from position `from` of s on, can be read into these arrays
+--   LinksRead f s from nodes count ends weights r
+--                                           they are in the arrays, or r says the refusal
+--   LinksThere f s from count               `count` link records stand from position `from` of s on, and all are read in the format f
+--   TrunksReadable f s from count numbers   so it is, and `numbers` has room for their trunk numbers
 use Prim.Native.Nat.{ℕ, _+_, _^_, _≤_}
 use mathlib.Core.Path.{_≡_}
 use mathlib.Core.Bool.{Bool, cond}

@@ -186,6 +186,6 @@ module _ (net : Network) (s : Bytes) (from count at i : ℕ) (w : TreesRun net s
   pub trees-done : i ≡ count → accepted (treesFrom net count (drop from s)) (drop at s) ≡ records (λ _. treeRecord net) count [] (drop from s)
   trees-done e = rw e at (run-done w e)
 
--- the record at place i of n behind one another
+-- record i of n behind one another
 pub record-inside : (at n size end i : ℕ) → at + n * size ≤ end → i < n → at + i * size + size ≤ end
 record-inside at n size end i h b = let l : suc i * size ≤ n * size = mul-le-mul-right size b in let e = suc-mul i size in omega arith

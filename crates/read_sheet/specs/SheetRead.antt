@@ -1,9 +1,9 @@
 -- What the answer to reading a sheet says, case by case: the network that the arrays and the tree records hold, or document 01's number.
 -- Assumes nothing.
---   sheetSays s es ws r       what r says where it answers to reading the sheet s into the arrays of ends and of weights
---   TreesLast s r             the tree records reach to the end of s
---   BodyReadable s c es ws    links and trees of the counts c can be read behind the header of s into these arrays
---   SheetRead s es ws net r   r and the arrays say of s what its reading `net` says, and its tree records reach to its end
+--   sheetSays s ends ws r            what r says where it answers to reading the sheet s into the arrays of ends and of weights
+--   TreesLast s r                    the tree records reach to the end of s
+--   BodyReadable s c ends weights    links and trees of the counts c can be read behind the header of s into these arrays
+--   SheetRead s ends weights net r   r and the arrays say of s what its reading `net` says, and its tree records reach to its end
 use Prim.Native.Nat.{ℕ, _≤_, _<_}
 use mathlib.Core.Path.{_≡_}
 use mathlib.Core.List.{List, []}
@@ -13,18 +13,17 @@ use Rattle.cuts.specs.Limits.{mostNodes, mostLinks}
 use Rattle.sheet.specs.Bytes.{Bytes}
 use Rattle.sheet.specs.Reading.{Reading, accepted, refused}
 use Rattle.sheet.specs.Sheet.{Counts, headerLength}
-use Rattle.read_header.specs.HeaderRead.{countsOf}
 use Rattle.arrays.specs.Links.{LinkArrays}
-use Rattle.arrays.specs.Records.{networkAt, recordAt}
+use Rattle.arrays.specs.Records.{networkAt, recordOf}
 use Rattle.read_sheet.specs.declared.Outcome.{Outcome}
 use Rattle.read_sheet.specs.declared.Outcome.the-variants.{Read, Refused}
 
 abbrev pub sheetSays : Bytes → List (List ℕ) → List ℕ → Outcome → Reading Network
-sheetSays s ends ws (Read c p) = accepted (networkAt s ends ws (countsOf c) p) []
+sheetSays s ends ws (Read l) = accepted (networkAt s ends ws l) []
 sheetSays s ends ws (Refused n) = refused n
 
 abbrev pub TreesLast : Bytes → Outcome → Type 0
-TreesLast s (Read c p) = recordAt (c .links) p (c .trees) ≡ length s
+TreesLast s (Read l) = recordOf l (l .trees) ≡ length s
 TreesLast s (Refused n) = Unit {0}
 
 pub record BodyReadable (s : Bytes) (c : Counts) (ends : List (List ℕ)) (weights : List ℕ) : Type 0 where

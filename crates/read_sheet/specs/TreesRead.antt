@@ -1,5 +1,5 @@
 -- Tree records: where they stand, and what reading them asks and answers. Assumes nothing.
---   PlaceFits p m i            the record of tree i, of records for m links from position p on, stands at a number of eight bytes
+--   PositionFits p m i            the record of tree i, of records for m links from position p on, stands at a number of eight bytes
 --   RecordWhole s p m          a whole tree record, for m links, stands at p
 --   LinksKnown n m es          the links 0, .., m - 1 have their ends, in es, at nodes; of these there are n, the root among them; a sheet
 --                              can have so many of both
@@ -24,7 +24,7 @@ use Rattle.format.specs.Numbers.{eightBytes}
 use Rattle.format.specs.Steps.{stepSays, EndsAt}
 use Rattle.format.specs.declared.Step.{Step}
 
-pub record PlaceFits (at links tree : ℕ) : Type 0 where
+pub record PositionFits (at links tree : ℕ) : Type 0 where
   pub few-links : links ≤ mostLinks
   pub fits : recordAt links at tree < eightBytes
 

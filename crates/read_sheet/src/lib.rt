@@ -2,6 +2,7 @@
 pub mod tree_records; // tree records
 
 use crate::tree_records::read_trees;
+use arrays::Layout;
 use format::Step;
 use format::limits::HEADER_LENGTH;
 use format::limits::MOST_LINKS;
@@ -16,9 +17,9 @@ ghost use Rattle.read_header.specs.HeaderRead.{countsOf};
 ghost use Rattle.arrays.specs.Links.{LinkArrays};
 ghost use Rattle.read_sheet.specs.SheetRead.{BodyReadable, SheetRead};
 
-// The counts and where the first tree record stands, or the refusal number.
+// The layout of what was read, or the refusal number.
 pub enum Outcome {
-    Read(Counts, usize),
+    Read(Layout),
     Refused(u32),
 }
 
@@ -42,7 +43,12 @@ fn read_body(
                 if end < s.len() {
                     Outcome::Refused(refusals::BYTES_LEFT)
                 } else {
-                    Outcome::Read(c, at)
+                    Outcome::Read(Layout {
+                        nodes: nodes,
+                        links: links,
+                        trees: trees,
+                        records: at,
+                    })
                 }
             }
             Step::Refused(n) => Outcome::Refused(n),
@@ -51,8 +57,8 @@ fn read_body(
     }
 }
 
-// Reads a sheet: each link's first end, second end and weight into the arrays, and the counts and the position of the first tree record
-// as the answer; or the number of the first refusal.
+// Reads a sheet: each link's first end, second end and weight into the arrays, and its layout as the answer; or the number of the first
+// refusal.
 // Cost: one pass over the bytes and one over the bits of each link map, and for each tree a few steps for each of its nodes.
 pub fn read_sheet(
     ends: &mut [[u8; MOST_LINKS]; 2],

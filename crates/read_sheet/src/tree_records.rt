@@ -19,7 +19,7 @@ ghost use Rattle.arrays.specs.Records.{recordAt, mapAt};
 ghost use Rattle.sheet.specs.Bytes.{mapBit};
 ghost use Rattle.sheet.specs.Reading.{firstFailing};
 ghost use Rattle.sheet.specs.Sheet.{mapLength, treeLength, mapChecks};
-ghost use Rattle.read_sheet.specs.TreesRead.{PlaceFits, RecordWhole, MapSized, MapCounted, TreesAhead, TreeRead, TreesRead};
+ghost use Rattle.read_sheet.specs.TreesRead.{PositionFits, RecordWhole, MapSized, MapCounted, TreesAhead, TreeRead, TreesRead};
 
 // The bytes of a tree's share, in front of its map.
 const SHARE_LENGTH: usize = 4;
@@ -42,7 +42,7 @@ pub fn tree_length(links: usize) -> usize
 
 // Where the record of a tree stands, of the tree records from a position on.
 pub fn record_at(at: usize, links: usize, tree: usize) -> usize
-    requires { ⌜ PlaceFits at links tree ⌝ }
+    requires { ⌜ PositionFits at links tree ⌝ }
     ensures { λ r. ⌜ r ≡ recordAt links at tree ⌝ }
 {
     at + tree * tree_length(links)

@@ -10,7 +10,7 @@ use borrow.Author.Tests.{lt-ltb, le-ltb, eq-eqb, ne-eqb}
 use Rattle.cuts.specs.First.{thenBy}
 use Rattle.cuts.specs.Candidate.{Handle, Candidate, fewerNodes, ahead}
 use Rattle.cuts.proofs.ThenLaws.{then-assoc}
-use Rattle.search_order.specs.Choice.{lead, rest, sooner, earlier, comesFirst, chosen, Says, shown}
+use Rattle.search_order.specs.Choice.{lead, rest, sooner, earlier, comesFirst, chosen, Says, said}
 use Rattle.search_order.specs.declared.Found.{Found}
 use Rattle.search_order.proofs.HandleLaws.{three-ways, chosen-lead}
 
@@ -40,30 +40,30 @@ rest-two e f q = rw (ne-eqb e f q)
 
 module _ (a b : Found) where
   abbrev first-test : Bool
-  first-test = comesFirst (ahead fewerNodes) (shown a) (shown b)
+  first-test = comesFirst (ahead fewerNodes) (said a) (said b)
 
   -- one number at a time
-  by-numbers : first-test ≡ thenBy (λ c d. ltb (c .weight) (d .weight)) (thenBy (λ c d. ltb (c .count) (d .count)) earlier) (shown a) (shown b)
+  by-numbers : first-test ≡ thenBy (λ c d. ltb (c .weight) (d .weight)) (thenBy (λ c d. ltb (c .count) (d .count)) earlier) (said a) (said b)
   unfolding comesFirst ahead
-  by-numbers = then-assoc (λ c d. ltb (c .weight) (d .weight)) (λ c d. ltb (c .count) (d .count)) earlier (shown a) (shown b)
+  by-numbers = then-assoc (λ c d. ltb (c .weight) (d .weight)) (λ c d. ltb (c .count) (d .count)) earlier (said a) (said b)
 
   pub by-weight : (a .weight ≡ b .weight → ⊥) → ltb (a .weight) (b .weight) ≡ first-test
-  by-weight n = sym (by-numbers ∙ by-number-other (λ c. c .weight) _ (shown a) (shown b) n)
+  by-weight n = sym (by-numbers ∙ by-number-other (λ c. c .weight) _ (said a) (said b) n)
 
   module _ (w : a .weight ≡ b .weight) where
-    even-weight : first-test ≡ thenBy (λ c d. ltb (c .count) (d .count)) earlier (shown a) (shown b)
-    even-weight = by-numbers ∙ by-number-even (λ c. c .weight) _ (shown a) (shown b) w
+    even-weight : first-test ≡ thenBy (λ c d. ltb (c .count) (d .count)) earlier (said a) (said b)
+    even-weight = by-numbers ∙ by-number-even (λ c. c .weight) _ (said a) (said b) w
 
     pub by-count : (a .count ≡ b .count → ⊥) → ltb (a .count) (b .count) ≡ first-test
-    by-count n = sym (even-weight ∙ by-number-other (λ c. c .count) earlier (shown a) (shown b) n)
+    by-count n = sym (even-weight ∙ by-number-other (λ c. c .count) earlier (said a) (said b) n)
 
     module _ (m : a .count ≡ b .count) where
-      even-count : first-test ≡ earlier (shown a) (shown b)
-      even-count = even-weight ∙ by-number-even (λ c. c .count) earlier (shown a) (shown b) m
+      even-count : first-test ≡ earlier (said a) (said b)
+      even-count = even-weight ∙ by-number-even (λ c. c .count) earlier (said a) (said b) m
 
       pub by-tree : (a .tree ≡ b .tree → ⊥) → ltb (a .tree) (b .tree) ≡ first-test
       unfolding earlier
-      by-tree n = sym (even-count ∙ by-number-other (λ c. c .tree) (λ c d. sooner (c .handle) (d .handle)) (shown a) (shown b) n)
+      by-tree n = sym (even-count ∙ by-number-other (λ c. c .tree) (λ c d. sooner (c .handle) (d .handle)) (said a) (said b) n)
 
       module _ (t : a .tree ≡ b .tree) where
         abbrev one-handle : Handle
@@ -74,7 +74,7 @@ module _ (a b : Found) where
 
         even-tree : first-test ≡ sooner one-handle other-handle
         unfolding earlier
-        even-tree = even-count ∙ by-number-even (λ c. c .tree) (λ c d. sooner (c .handle) (d .handle)) (shown a) (shown b) t
+        even-tree = even-count ∙ by-number-even (λ c. c .tree) (λ c d. sooner (c .handle) (d .handle)) (said a) (said b) t
 
         pub by-first : (a .first ≡ b .first → ⊥) → ltb (a .first) (b .first) ≡ first-test
         unfolding sooner
@@ -91,7 +91,7 @@ module _ (a b : Found) where
             sym (even-tree ∙ by-number-even lead (λ g h. ltb (rest g) (rest h)) one-handle other-handle (p ∙ e ∙ sym q))
 
 -- the order goes by what is said
-pub says-order : {a b : Found} {c d : Candidate} → Says a c → Says b d → comesFirst (ahead fewerNodes) (shown a) (shown b) ≡ comesFirst (ahead fewerNodes) c d
+pub says-order : {a b : Found} {c d : Candidate} → Says a c → Says b d → comesFirst (ahead fewerNodes) (said a) (said b) ≡ comesFirst (ahead fewerNodes) c d
 unfolding comesFirst thenBy ahead earlier sooner
 says-order s r = rw (s .weight, s .count, s .tree, s .handle, r .weight, r .count, r .tree, r .handle)
 

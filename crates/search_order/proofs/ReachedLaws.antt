@@ -10,13 +10,13 @@ use native.Mathlib.Omega.{arith}
 use Rattle.cuts.specs.First.{firstFrom}
 use Rattle.cuts.specs.Network.{Network, Tree}
 use Rattle.cuts.specs.Cut.{size}
-use Rattle.cuts.specs.Candidate.{Candidate, Rank, fewerNodes, candidate, ahead, sideOf, weightOf}
+use Rattle.cuts.specs.Candidate.{Candidate, Key, fewerNodes, candidate, ahead, sideOf, weightOf}
 use Rattle.cuts.proofs.Least.{Order}
 use Rattle.cuts.proofs.ThenLaws.{then-left, by-number-in}
 use Rattle.cuts.proofs.Demands.{ahead-weighing}
 use Rattle.arrays.specs.Lists.{entry}
 use Rattle.arrays.specs.Kept.{LinksAt}
-use Rattle.search_order.specs.Choice.{earlier, comesFirst, chosen, Says, shown, Paired, Prior, treeCandidates}
+use Rattle.search_order.specs.Choice.{earlier, comesFirst, chosen, Says, said, Paired, Prior, treeCandidates}
 use Rattle.search_order.specs.Visits.{handleAt, Reached}
 use Rattle.search_order.specs.declared.Found.{Found}
 use Rattle.search_order.proofs.OrderLaws.{first-alone}
@@ -26,11 +26,11 @@ use Rattle.search_order.proofs.TreeLaws.{tree-first}
 use Rattle.search_order.proofs.RowLaws.{rows-start, row-start, pair-step, rows-end}
 
 -- a heavier one does not come first
-heavier-later : (rank : Rank) (c d : Candidate) → c .weight < d .weight → comesFirst (ahead rank) d c ≡ false
+heavier-later : (key : Key) (c d : Candidate) → c .weight < d .weight → comesFirst (ahead key) d c ≡ false
 unfolding comesFirst ahead
-heavier-later rank c d l =
-    comesFirst-order (ahead-weighing rank .order) .one-way c d
-    (then-left (ahead rank) earlier c d (by-number-in (λ c. c .weight) (λ c d. ltb (rank c) (rank d)) c d (inl l)))
+heavier-later key c d l =
+    comesFirst-order (ahead-weighing key .order) .one-way c d
+    (then-left (ahead key) earlier c d (by-number-in (λ c. c .weight) (λ c d. ltb (key c) (key d)) c d (inl l)))
 
 module _ {before : Candidate → Candidate → Bool} {net : Network} {i : ℕ} {t : Tree} {links : List ℕ} {c : Candidate} {found : Found} where
   pub reached-row : (u v : ℕ) → net .nodes ≤ v → Reached before c net i t links (u + 1) v found → Reached before c net i t links u u found
@@ -74,10 +74,10 @@ module _ {net : Network} {i : ℕ} {t : Tree} {links : List ℕ} {c : Candidate}
 
   -- one that was tried, and came first or did not
   module _ {tried : Found} (says : Says tried (candidate net i t (handleAt links u v))) where
-    pub reached-taken : comesFirst (ahead fewerNodes) (shown tried) (shown found) ≡ true → Reached (ahead fewerNodes) c net i t links u (v + 1) tried
+    pub reached-taken : comesFirst (ahead fewerNodes) (said tried) (said found) ≡ true → Reached (ahead fewerNodes) c net i t links u (v + 1) tried
     reached-taken e = reached-step (ahead-weighing fewerNodes .order) u v z l b r (λ x s. says-taken x _ (sym (says-order says s) ∙ e) says)
 
-    pub reached-kept : comesFirst (ahead fewerNodes) (shown tried) (shown found) ≡ false → Reached (ahead fewerNodes) c net i t links u (v + 1) found
+    pub reached-kept : comesFirst (ahead fewerNodes) (said tried) (said found) ≡ false → Reached (ahead fewerNodes) c net i t links u (v + 1) found
     reached-kept e = reached-step (ahead-weighing fewerNodes .order) u v z l b r (λ x s. says-kept x _ (sym (says-order says s) ∙ e) s)
 
 -- nor need a run of such be

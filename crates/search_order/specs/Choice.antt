@@ -4,14 +4,14 @@
 --   rest h                   what decides where these are equal: 0 for one link, for two one more than the second
 --   sooner g h               Sooner as a test
 --   earlier c d              Earlier as a test
---   comesFirst before c d    `before`, and of even ones the earlier; with `ahead rank`, Precedes of that rank as a test
+--   comesFirst before c d    `before`, and of even ones the earlier; with `ahead key`, Precedes of that key as a test
 --   treeCandidates net i t   all candidates of tree i, which is t, in their order
 --   firstTrees net i         all of the trees below i, in their order
 --   Visited net c i x        x is c, or one of these
 --   Prior before net i t c   each candidate of tree i comes before c, or c is the earlier
 --   chosen e f               the handle that two link numbers name: one link where they are equal
 --   Says found c             `found` says the tree, the handle, the weight and the number of nodes of c
---   shown found              a candidate that it says, with no side
+--   said found              a candidate that it says, with no side
 --   Paired i a b w n found   `found` is of tree i, its two links are a and b in their order, and w and n are its weight and its number of nodes
 --   noWeight                 the largest number of eight bytes: no candidate of a network is so heavy
 --   unfound                  where a search starts: a candidate heavier than any of a network
@@ -80,8 +80,8 @@ pub record Says (found : Found) (c : Candidate) : Type 0 where
   pub weight : found .weight ≡ c .weight
   pub count : found .count ≡ c .count
 
-abbrev pub shown : Found → Candidate
-shown found = record { tree = found .tree; handle = chosen (found .first) (found .second); weight = found .weight; count = found .count; side = [] }
+abbrev pub said : Found → Candidate
+said found = record { tree = found .tree; handle = chosen (found .first) (found .second); weight = found .weight; count = found .count; side = [] }
 
 pub record Paired (tree a b weight count : ℕ) (found : Found) : Type 0 where
   pub of-tree : found .tree ≡ tree

@@ -1,9 +1,8 @@
 // Chooses between candidates in any order of visits: by weight, number of nodes in the side, tree, first link, one link before two, and
 // second link. These decide between any two candidates of a network, so that it does not matter in which order they are visited.
 ghost use mathlib.Core.Path.{_≡_};
-ghost use mathlib.Core.Bool.{cond};
-ghost use Rattle.cuts.specs.Candidate.{Candidate, fewerNodes, ahead};
-ghost use Rattle.search_order.specs.Choice.{rest, comesFirst, chosen, Says, shown, Paired, unfound};
+ghost use Rattle.cuts.specs.Candidate.{fewerNodes, ahead};
+ghost use Rattle.search_order.specs.Choice.{rest, comesFirst, chosen, Says, said, Paired, unfound};
 
 // More than any candidate weighs.
 pub const NO_WEIGHT: u64 = 18446744073709551615;
@@ -29,7 +28,7 @@ fn rest_of(first: u16, second: u16) -> u32
 
 // Whether `a` comes before `b`.
 pub fn comes_first(a: Found, b: Found) -> bool
-    ensures { λ r. ⌜ r ≡ comesFirst (ahead fewerNodes) (shown a) (shown b) ⌝ }
+    ensures { λ r. ⌜ r ≡ comesFirst (ahead fewerNodes) (said a) (said b) ⌝ }
 {
     if a.weight != b.weight {
         return a.weight < b.weight;
@@ -44,17 +43,6 @@ pub fn comes_first(a: Found, b: Found) -> bool
         return a.first < b.first;
     }
     rest_of(a.first, a.second) < rest_of(b.first, b.second)
-}
-
-// The one of two candidates that comes first; of even ones the one found before.
-pub fn choose(before: Found, tried: Found) -> Found
-    ensures { λ r. ⌜ ((c d : Candidate) → Says before c → Says tried d
-        → Says r (cond (comesFirst (ahead fewerNodes) d c) d c)) ⌝ }
-{
-    if comes_first(tried, before) {
-        return tried;
-    }
-    before
 }
 
 // The candidate of two links of a tree in either order, or of one link given twice, with its weight and the number of nodes in its side.

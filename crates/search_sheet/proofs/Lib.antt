@@ -1,2 +1,2 @@
-pub mod NetworkLaws
 pub mod ToComeLaws
+pub mod SideLaws

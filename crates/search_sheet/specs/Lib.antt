@@ -1,1 +1,1 @@
-pub mod SheetTrees
+pub mod Reported

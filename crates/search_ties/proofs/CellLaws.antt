@@ -2,7 +2,7 @@
 -- of the table's, and each cell of the table is that of two places.
 -- Assumes nothing.
 use Prim.Native.Nat.{ℕ, suc, _+_, _*_, _-_, _/_, _%_, _≤_, _<_, min, max}
-use mathlib.Core.Path.{_≡_, sym, ap, ap₂, _∙_}
+use mathlib.Core.Path.{_≡_, ap, ap₂, _∙_}
 use mathlib.Core.Logic.{_⊎_, inl, inr}
 use mathlib.Core.Bool.{true, and-eq-true-iff}
 use mathlib.Core.List.{List}
@@ -18,9 +18,10 @@ use Rattle.cuts.specs.Limits.{mostNodes}
 use Rattle.arrays.specs.Lists.{entry}
 use Rattle.search_order.specs.Choice.{chosen}
 use Rattle.search_order.specs.Visits.{handleAt}
-use Rattle.search_order.proofs.HandleLaws.{less-or-not, three-ways}
+use Rattle.search_order.proofs.HandleLaws.{less-or-not}
 use Rattle.tree_ranks.specs.Ranks.{RanksOf}
 use Rattle.tree_ranks.proofs.SelectLaws.{members-length, members-rise}
+use Rattle.tree_ranks.proofs.MemberLaws.{rank-member, at-rank}
 use Rattle.bit_table.specs.Cells.{isCell, cellHandle}
 use Rattle.search_ties.specs.Ties.{cellOf, cellAt}
 
@@ -73,28 +74,6 @@ module _ {net : Network} {t : Tree} {links at rank : List ℕ} (few : net .nodes
   rank-small : (x : ℕ) → 0 < x → x < net .nodes → entry rank x < mostNodes
   rank-small x z b = let r = h .ranked x z b in omega arith
 
-  -- the link at a place is the member of its rank
-  rank-member : (x : ℕ) → 0 < x → x < net .nodes → entry links x ≡ entry (memberLinks net t) (entry rank x)
-  rank-member x z b = ap (entry links) (sym (h .back x z b)) ∙ h .member (entry rank x) (h .ranked x z b)
-
-  -- the place of a rank has that rank
-  at-rank : (r : ℕ) → suc r < net .nodes → entry rank (entry at r) ≡ r
-  at-rank r b = go (three-ways (entry rank (entry at r)) r)
-    where
-      same : entry (memberLinks net t) (entry rank (entry at r)) ≡ entry (memberLinks net t) r
-      same = sym (rank-member (entry at r) (h .some r b) (h .within r b)) ∙ h .member r b
-
-      go : (entry rank (entry at r) ≡ r) ⊎ ((entry rank (entry at r) < r) ⊎ (r < entry rank (entry at r))) → entry rank (entry at r) ≡ r
-      go (inl e) = e
-      go (inr (inl l)) =
-          let s = same in
-          let m = members-rise net t (entry rank (entry at r)) r l (let c = count-is in omega arith) in
-          absurd (omega arith)
-      go (inr (inr l)) =
-          let s = same in
-          let m = members-rise net t r (entry rank (entry at r)) l (rank-in (entry at r) (h .some r b) (h .within r b)) in
-          absurd (omega arith)
-
   module _ (x y : ℕ) (z : 0 < x) (b : x < net .nodes) (w : 0 < y) (d : y < net .nodes) where
     -- the handle of two places is that of their ranks' cell
     pub cell-handle : cellHandle (memberLinks net t) (cellAt rank x y) ≡ handleAt links x y
@@ -104,7 +83,7 @@ module _ {net : Network} {t : Tree} {links at rank : List ℕ} (few : net .nodes
         let q = entry rank y in
         let e = cell-row p q (rank-small x z b) (rank-small y w d) in
         let f = cell-column p q (rank-small x z b) (rank-small y w d) in
-        rw (rank-member x z b, rank-member y w d)
+        rw (rank-member counted h x z b, rank-member counted h y w d)
         (ap₂ chosen (ap (entry ms) e ∙ least-at ms (members-rise net t) p q (rank-in x z b) (rank-in y w d))
         (ap (entry ms) f ∙ most-at ms (members-rise net t) p q (rank-in x z b) (rank-in y w d)))
 
@@ -122,8 +101,8 @@ module _ {net : Network} {t : Tree} {links at rank : List ℕ} (few : net .nodes
 
       go : (entry at b < entry at a) ⊎ (entry at a ≤ entry at b)
           → (x : ℕ) × (y : ℕ) × (0 < x) × (x ≤ y) × (y < net .nodes) × (cellAt rank x y ≡ q)
-      go (inl l) = (entry at b, entry at a, h .some b d, omega arith, h .within a low, rw (at-rank a low, at-rank b d) (omega arith))
-      go (inr l) = (entry at a, entry at b, h .some a low, l, h .within b d, rw (at-rank a low, at-rank b d) (omega arith))
+      go (inl l) = (entry at b, entry at a, h .some b d, omega arith, h .within a low, rw (at-rank counted h a low, at-rank counted h b d) (omega arith))
+      go (inr l) = (entry at a, entry at b, h .some a low, l, h .within b d, rw (at-rank counted h a low, at-rank counted h b d) (omega arith))
 
   pub cell-every : (q : ℕ) → isCell (length (memberLinks net t)) q ≡ true
       → (x : ℕ) × (y : ℕ) × (0 < x) × (x ≤ y) × (y < net .nodes) × (cellAt rank x y ≡ q)

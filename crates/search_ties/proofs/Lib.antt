@@ -1,3 +1,3 @@
 pub mod CellLaws
-pub mod TieLaws
-pub mod MarkedLaws
+pub mod MarkLaws
+pub mod TableLaws

@@ -1,28 +1,29 @@
-// Marks the lightest candidates of one tree, all of them, in a table of bits, by the ranks of their links.
+// Marks the candidates of one tree that weigh no more than a limit, all of them, in a table of bits, by the ranks of their links.
 use bit_table::clear_bits;
 use bit_table::set_bit;
+use by_node::LISTS;
 use format::limits::MOST_LINKS;
 use format::limits::MOST_NODES;
-use search_tree::next_light;
-use search_tree::weigh_places;
 use tree_ranks::Ranked;
 use tree_ranks::TABLE;
 use tree_rows::FIGURES;
-use tree_rows::LISTS;
 use tree_rows::SINGLES;
 use tree_rows::make_row;
-use tree_rows::pair_weight;
+use tree_rows::next_light;
+use tree_rows::weigh_places;
 ghost use mathlib.Core.Path.{_≡_};
 ghost use mathlib.Core.List.{List};
-ghost use Prim.Native.Nat.{ℕ, _+_, _<_};
+ghost use Prim.Native.Nat.{ℕ, _+_};
+ghost use lib.Dec.{leb};
 ghost use Rattle.cuts.specs.Network.{Network, Tree};
-ghost use Rattle.cuts.specs.Limits.{mostNodes};
+ghost use Rattle.cuts.specs.Candidate.{weightOf};
 ghost use Rattle.arrays.specs.ByNode.{Degrees};
-ghost use Rattle.tree_rows.specs.Rows.{Weighted, degreesIn};
-ghost use Rattle.tree_rows.specs.Making.{Searchable, RowHeld};
-ghost use Rattle.bit_table.specs.Cells.{cellsEnd};
-ghost use Rattle.search_tree.specs.Searching.{RowAt};
-ghost use Rattle.search_ties.specs.Ties.{IsCellOf, InRows, TieKept, TiesAmong, TreeIndexed, TiesMarked};
+ghost use Rattle.tree_rows.specs.Rows.{PlaceDegrees, degreesIn};
+ghost use Rattle.tree_rows.specs.Making.{Searchable};
+ghost use Rattle.tree_rows.specs.Reading.{RowHeld, RowAt};
+ghost use Rattle.tree_ranks.specs.Ranks.{RankedHeld};
+ghost use Rattle.bit_table.specs.Cells.{Tabled};
+ghost use Rattle.search_ties.specs.Ties.{IsCellOf, InRows, LightMarked};
 
 // The cell of the links of two ranks, which is that of one link where they are equal.
 fn cell(a: u8, b: u8) -> usize
@@ -35,24 +36,7 @@ fn cell(a: u8, b: u8) -> usize
     }
 }
 
-// Marks a candidate of this weight in its cell, unless it is heavier than the least weight so far; beside a lighter one
-// no other stays marked. The lesser of both weights.
-fn keep_tie(table: &mut [u64; TABLE], weight: u64, q: usize, least: u64) -> u64
-    requires { ⌜ q < cellsEnd mostNodes ⌝ }
-    ensures { λ r. ⌜ TieKept (now (table .entry)) (now (table .exit)) weight q least r ⌝ }
-{
-    if weight > least {
-        return least;
-    }
-    if weight < least {
-        clear_bits(table);
-    }
-    set_bit(table, q);
-    weight
-}
-
-// Marks the lightest of those before and the candidates of row `u`: the link at place `u` alone, then with each one
-// behind it that weighs no more than the least so far. The least weight after them.
+// Marks the candidates of row `u` that weigh no more than the limit: the link at place `u` alone, and with each one behind it.
 fn mark_row(
     table: &mut [u64; TABLE],
     figures: &[u64; FIGURES],
@@ -60,28 +44,27 @@ fn mark_row(
     stops: &[u16; MOST_NODES],
     rank: &[u8; MOST_NODES],
     u: usize,
-    before: u64,
-) -> u64
+    limit: u64,
+)
     requires { ⌜ RowAt (now stops) nodes u ⌝ }
-    ensures { λ r. ⌜ ((net : Network) (t : Tree) (place node links : List ℕ) (limit : ℕ)
+    ensures { λ _. ⌜ ((net : Network) (t : Tree) (place node links : List ℕ)
         → RowHeld net t place node (now (stops .entry)) links u (now (figures .entry))
         → net .nodes ≡ nodes
-        → TiesAmong net t links (now (rank .entry)) (InRows nodes (u + 1) nodes) limit before (now (table .entry))
-        → TiesAmong net t links (now (rank .entry)) (InRows nodes u nodes) limit r (now (table .exit))) ⌝ }
+        → LightMarked net t links (now (rank .entry)) (InRows nodes (u + 1) nodes) limit (now (table .entry))
+        → LightMarked net t links (now (rank .entry)) (InRows nodes u nodes) limit (now (table .exit))) ⌝ }
 {
     let own = rank[u];
-    let mut least = keep_tie(table, figures[SINGLES + u], cell(own, own), before);
-    let mut v = next_light(figures, nodes, stops, u, u + 1, least);
-    while v < nodes {
-        let weight = pair_weight(figures, stops, u, v);
-        least = keep_tie(table, weight, cell(own, rank[v]), least);
-        v = next_light(figures, nodes, stops, u, v + 1, least);
+    if figures[SINGLES + u] <= limit {
+        set_bit(table, cell(own, own));
     }
-    least
+    let mut v = next_light(figures, nodes, stops, u, u + 1, limit);
+    while v < nodes {
+        set_bit(table, cell(own, rank[v]));
+        v = next_light(figures, nodes, stops, u, v + 1, limit);
+    }
 }
 
-// Marks the lightest candidates of a tree, if they weigh no more than the limit; `figures` has the degrees by place.
-// The lesser of the limit and their weight.
+// Marks the candidates of a tree that weigh no more than the limit; `figures` has the degrees by place.
 fn mark_rows(
     table: &mut [u64; TABLE],
     figures: &mut [u64; FIGURES],
@@ -91,12 +74,12 @@ fn mark_rows(
     lists: &[u16; LISTS],
     r: Ranked,
     limit: u64,
-) -> u64
+)
     requires { ⌜ Searchable (now ends) (now lists) (r .node) (r .stops) nodes ⌝ }
-    ensures { λ least. ⌜ ((net : Network) (t : Tree)
-        → TreeIndexed net t (now (ends .entry)) (now (weights .entry)) (now (lists .entry)) nodes r
-        → Weighted net (r .place) (degreesIn (now (figures .entry)))
-        → TiesMarked net t limit least (now (table .exit))) ⌝ }
+    ensures { λ _. ⌜ ((net : Network) (t : Tree)
+        → RankedHeld net t (now (ends .entry)) (now (weights .entry)) (now (lists .entry)) nodes r
+        → PlaceDegrees net (r .place) (degreesIn (now (figures .entry)))
+        → Tabled net t (λ h. leb (weightOf net t h) limit) (now (table .exit))) ⌝ }
 {
     let place = r.place;
     let node = r.node;
@@ -104,18 +87,15 @@ fn mark_rows(
     let rank = r.rank;
     let bytes = [place, node];
     clear_bits(table);
-    let mut least = limit;
     let mut u = nodes;
     while u > 1 {
         u -= 1;
         make_row(figures, nodes, ends, weights, lists, &bytes, &stops, u);
-        least = mark_row(table, figures, nodes, &stops, &rank, u, least);
+        mark_row(table, figures, nodes, &stops, &rank, u, limit);
     }
-    least
 }
 
-// Marks in the table the candidates of a tree that weigh least, if no more than the limit, and answers what that is:
-// the lesser of the limit and the least weight of the tree's candidates; `degrees` has the weight of each node's links.
+// Marks in the table exactly those candidates of a tree that weigh no more than the limit; `degrees` has the weight of each node's links.
 // Cost: as that of `search_tree`.
 pub fn mark_ties(
     table: &mut [u64; TABLE],
@@ -126,15 +106,15 @@ pub fn mark_ties(
     degrees: &[u64; MOST_NODES],
     r: Ranked,
     limit: u64,
-) -> u64
+)
     requires { ⌜ Searchable (now ends) (now lists) (r .node) (r .stops) nodes ⌝ }
-    ensures { λ least. ⌜ ((net : Network) (t : Tree)
-        → TreeIndexed net t (now (ends .entry)) (now (weights .entry)) (now (lists .entry)) nodes r
+    ensures { λ _. ⌜ ((net : Network) (t : Tree)
+        → RankedHeld net t (now (ends .entry)) (now (weights .entry)) (now (lists .entry)) nodes r
         → Degrees net (now (degrees .entry))
-        → TiesMarked net t limit least (now (table .exit))) ⌝ }
+        → Tabled net t (λ h. leb (weightOf net t h) limit) (now (table .exit))) ⌝ }
 {
     let node = r.node;
     let mut figures = [0u64; FIGURES];
-    weigh_places(&mut figures, &node, degrees);
-    mark_rows(table, &mut figures, nodes, ends, weights, lists, r, limit)
+    weigh_places(&mut figures, nodes, &node, degrees);
+    mark_rows(table, &mut figures, nodes, ends, weights, lists, r, limit);
 }

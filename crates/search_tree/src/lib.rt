@@ -1,20 +1,17 @@
 // Searches the candidates of one tree by rows: from the last place down, the link at each place alone, then with each one behind it.
-pub mod index; // the links at each node
-
+use by_node::LISTS;
 use format::limits::MOST_LINKS;
 use format::limits::MOST_NODES;
 use search_order::Found;
-use search_order::choose;
 use search_order::comes_first;
 use search_order::pair_of;
 use tree_places::Places;
-use tree_rows::DEGREES;
 use tree_rows::FIGURES;
-use tree_rows::LISTS;
 use tree_rows::SINGLES;
-use tree_rows::gather;
 use tree_rows::make_row;
+use tree_rows::next_light;
 use tree_rows::pair_weight;
+use tree_rows::weigh_places;
 use tree_sides::counts::pair_count;
 use tree_sides::counts::single_count;
 ghost use mathlib.Core.Path.{_≡_};
@@ -22,46 +19,35 @@ ghost use mathlib.Core.List.{List};
 ghost use Prim.Native.Nat.{ℕ, _+_, _<_};
 ghost use Rattle.cuts.specs.First.{firstFrom};
 ghost use Rattle.cuts.specs.Network.{Network, Tree};
-ghost use Rattle.cuts.specs.Candidate.{Candidate, fewerNodes, ahead};
-ghost use Rattle.cuts.specs.Limits.{mostNodes};
-ghost use Rattle.arrays.specs.Lists.{entry};
+ghost use Rattle.cuts.specs.Candidate.{Candidate, candidate, fewerNodes, ahead};
 ghost use Rattle.arrays.specs.ByNode.{Degrees};
-ghost use Rattle.tree_rows.specs.Rows.{Weighted, degreesIn};
-ghost use Rattle.tree_rows.specs.Making.{Searchable, Searched, RowHeld};
+ghost use Rattle.tree_rows.specs.Making.{Searchable, TreeHeld, RowsHeld};
+ghost use Rattle.tree_rows.specs.Reading.{RowHeld, RowAt, ColumnAt};
 ghost use Rattle.search_order.specs.Choice.{Says, Prior, treeCandidates};
-ghost use Rattle.search_order.specs.Visits.{Reached};
-ghost use Rattle.search_tree.specs.Searching.{PlacesWeighable, BesideDegrees, RowFrom, RowAt, NextLight};
+ghost use Rattle.search_order.specs.Visits.{handleAt, Reached};
 
-// The degree of the node at each place, in its part of `figures`.
-pub fn weigh_places(figures: &mut [u64], node: &[u8], degrees: &[u64; MOST_NODES])
-    requires { ⌜ PlacesWeighable (now figures) (now node) ⌝ }
-    ensures { λ _. ⌜ ((p : ℕ) → p < mostNodes
-        → entry (degreesIn (now (figures .exit))) p ≡ entry (now (degrees .entry)) (entry (now (node .entry)) p)) ⌝ }
-    ensures { λ _. ⌜ BesideDegrees (now (figures .entry)) (now (figures .exit)) ⌝ }
-{
-    gather(&mut figures[DEGREES..SINGLES], node, degrees);
-}
-
-// The first place from `from` on whose link, with that at `u`, weighs no more than `limit`; `nodes` where there is none.
-pub fn next_light(
+// The candidate of the links at the places `u` and `v`, no earlier than it, from the row of u: of one link where they are equal.
+fn candidate_at(
     figures: &[u64; FIGURES],
-    nodes: usize,
     stops: &[u16; MOST_NODES],
+    links: &[u16; MOST_NODES],
+    tree: u8,
     u: usize,
-    from: usize,
-    limit: u64,
-) -> usize
-    requires { ⌜ RowFrom (now stops) nodes u from ⌝ }
-    ensures { λ r. ⌜ NextLight (now (figures .entry)) nodes (now (stops .entry)) u from limit r ⌝ }
+    v: usize,
+) -> Found
+    requires { ⌜ ColumnAt (now stops) u v ⌝ }
+    ensures { λ r. ⌜ ((net : Network) (t : Tree) (place node : List ℕ)
+        → RowHeld net t place node (now (stops .entry)) (now (links .entry)) u (now (figures .entry)) → v < net .nodes
+        → Says r (candidate net tree t (handleAt (now (links .entry)) u v))) ⌝ }
 {
-    let mut v = from;
-    while v < nodes {
-        if pair_weight(figures, stops, u, v) <= limit {
-            return v;
-        }
-        v += 1;
+    let link = links[u];
+    if u == v {
+        let below = single_count(stops, u);
+        return pair_of(tree, link, link, figures[SINGLES + u], below);
     }
-    nodes
+    let weight = pair_weight(figures, stops, u, v);
+    let count = pair_count(stops, u, v);
+    pair_of(tree, link, links[v], weight, count)
 }
 
 // The first of what was found before and the candidates of row `u`: the link at place `u` alone, then with each one behind it that weighs no
@@ -82,17 +68,10 @@ fn search_row(
         → Reached (ahead fewerNodes) c net tree t (now (links .entry)) (u + 1) nodes before
         → Reached (ahead fewerNodes) c net tree t (now (links .entry)) u nodes r) ⌝ }
 {
-    let link = links[u];
-    let below = single_count(stops, u);
-    let mut best = choose(
-        before,
-        pair_of(tree, link, link, figures[SINGLES + u], below),
-    );
-    let mut v = next_light(figures, nodes, stops, u, u + 1, best.weight);
+    let mut best = before;
+    let mut v = u;
     while v < nodes {
-        let weight = pair_weight(figures, stops, u, v);
-        let count = pair_count(stops, u, v);
-        let tried = pair_of(tree, link, links[v], weight, count);
+        let tried = candidate_at(figures, stops, links, tree, u, v);
         if comes_first(tried, best) {
             best = tried;
         }
@@ -114,9 +93,8 @@ fn search_rows(
 ) -> Found
     requires { ⌜ Searchable (now ends) (now lists) (p .node) (p .stops) nodes ⌝ }
     ensures { λ r. ⌜ ((net : Network) (t : Tree) (c : Candidate)
-        → Searched net t (now (ends .entry)) (now (weights .entry)) (now (lists .entry))
-        (p .place) (p .node) (p .stops) (p .links) nodes
-        → Weighted net (p .place) (degreesIn (now (figures .entry)))
+        → RowsHeld net t (now (ends .entry)) (now (weights .entry)) (now (lists .entry))
+        (p .place) (p .node) (p .stops) (p .links) nodes nodes (now (figures .entry))
         → Prior (ahead fewerNodes) net tree t c → Says before c
         → Says r (firstFrom (ahead fewerNodes) c (treeCandidates net tree t))) ⌝ }
 {
@@ -149,7 +127,7 @@ pub fn search_tree(
 ) -> Found
     requires { ⌜ Searchable (now ends) (now lists) (p .node) (p .stops) nodes ⌝ }
     ensures { λ r. ⌜ ((net : Network) (t : Tree) (c : Candidate)
-        → Searched net t (now (ends .entry)) (now (weights .entry)) (now (lists .entry))
+        → TreeHeld net t (now (ends .entry)) (now (weights .entry)) (now (lists .entry))
         (p .place) (p .node) (p .stops) (p .links) nodes
         → Degrees net (now (degrees .entry))
         → Prior (ahead fewerNodes) net tree t c → Says before c
@@ -157,6 +135,6 @@ pub fn search_tree(
 {
     let node = p.node;
     let mut figures = [0u64; FIGURES];
-    weigh_places(&mut figures, &node, degrees);
+    weigh_places(&mut figures, nodes, &node, degrees);
     search_rows(&mut figures, nodes, ends, weights, lists, p, tree, before)
 }

@@ -133,9 +133,9 @@ report-before net p old = rw (answer-before alike net p)
 -- ---- F-6
 
 -- the verdict, which is byte 0, and the bytes from 8 on: weight, floor, and whatever stands behind them
-pub report-ranked : (net : Network) → Sound net → (old : Bytes) → let new = reportAfter current net old in let older = reportAfter trunked net old in
+pub report-reordered : (net : Network) → Sound net → (old : Bytes) → let new = reportAfter current net old in let older = reportAfter trunked net old in
     (take 1 new ≡ take 1 older) × (drop 8 new ≡ drop 8 older)
 unfolding reportBytes fieldBytes
-report-ranked net v old =
+report-reordered net v old =
     let same = ranks-agree net v longestRun fewerNodes alike in
     (ap (bytesOf 1) (same .2), ap₂ (λ (w f : ℕ). fieldBytes (8 ∷ 8 ∷ []) (w ∷ f ∷ []) ++ drop 24 old) (same .0) (same .1))

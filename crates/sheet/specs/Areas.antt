@@ -66,7 +66,7 @@ abbrev pub written : Bytes → Bytes → Bytes
 written new old = new ++ drop (length new) old
 
 abbrev pub sideAfter : Format → Network → Bytes → Bytes
-sideAfter f net old = written (sideBytes (reported (f .rules .rank) net .side)) old
+sideAfter f net old = written (sideBytes (reported (f .rules .key) net .side)) old
 
 abbrev pub reportAfter : Format → Network → Bytes → Bytes
 reportAfter f net old = written (reportBytes f (answer (f .rules) net)) old

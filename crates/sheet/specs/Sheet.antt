@@ -64,7 +64,7 @@ abbrev pub ruled : Rules → Format → Format
 ruled rules f = record { widths = f .widths; weightLimit = f .weightLimit; sumWidth = f .sumWidth; rules = rules }
 
 abbrev pub base : Format
-base = record { widths = 2 ∷ 2 ∷ 4 ∷ []; weightLimit = 1_000_000; sumWidth = 4; rules = record { counting = allOrNone; rank = alike } }
+base = record { widths = 2 ∷ 2 ∷ 4 ∷ []; weightLimit = 1_000_000; sumWidth = 4; rules = record { counting = allOrNone; key = alike } }
 
 -- "Every 4-byte weight is allowed. Weights of sides and the floor become 8-byte numbers"
 abbrev pub wide : Format
@@ -72,7 +72,7 @@ wide = record { widths = base .widths; weightLimit = 4_294_967_295; sumWidth = 8
 
 -- "From now on the trees that count are the longest run from tree 0 on that loads no link past its weight"
 abbrev pub tolerant : Format
-tolerant = ruled (record { counting = longestRun; rank = alike }) wide
+tolerant = ruled (record { counting = longestRun; key = alike }) wide
 
 -- "Bit 3 of a link's map adds a 2-byte trunk number after the weight"
 abbrev pub trunked : Format
@@ -80,7 +80,7 @@ trunked = record { widths = 2 ∷ 2 ∷ 4 ∷ 2 ∷ []; weightLimit = tolerant .
 
 -- "so the order is weight, fewer nodes in the side, tree, first link, single before pair, second link"
 abbrev pub smallFirst : Format
-smallFirst = ruled (record { counting = trunked .rules .counting; rank = fewerNodes }) trunked
+smallFirst = ruled (record { counting = trunked .rules .counting; key = fewerNodes }) trunked
 
 abbrev pub current : Format
 current = smallFirst

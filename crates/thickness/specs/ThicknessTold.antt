@@ -19,8 +19,8 @@ use Rattle.thickness.specs.Thickness.{mostWeight, Needed, TooLight, TooT
 unfoldable pub thicknessOf : Format → ℕ → ℕ → Network → Bytes → Reading ℕ
 unfolding firstFailing outOfReach missing
 thicknessOf f k wanted net rest =
-    unless (firstFailing (check 18 (leb (linkCount net) k) ∷ check 20 (outOfReach (f .rules .rank) net k wanted) ∷ []))
-    (accepted (missing (f .rules .rank) net k wanted) rest)
+    unless (firstFailing (check 18 (leb (linkCount net) k) ∷ check 20 (outOfReach (f .rules .key) net k wanted) ∷ []))
+    (accepted (missing (f .rules .key) net k wanted) rest)
 
 -- "after the sheet's refusals"
 unfoldable pub thicknessReading : Format → Bytes → ℕ → ℕ → Reading ℕ
@@ -37,8 +37,8 @@ pub record ThicknessTold (f : Format) (sheet : Bytes) (k wanted figure n : ℕ) 
   -- document 01: "Any figure .. that an operation carries beside the return number is then all 0"
   pub figure-is : figure ≡ figureLeft (thicknessReading f sheet k wanted)
   -- "The unit gives the smallest 4-byte weight for that link, others kept, with which the reported weight is no less than wanted"
-  pub needed : n ≡ 0 → (net : Network) × (decode f sheet ≡ accepted net []) × (k < linkCount net) × Needed (f .rules .rank) net k wanted figure
+  pub needed : n ≡ 0 → (net : Network) × (decode f sheet ≡ accepted net []) × (k < linkCount net) × Needed (f .rules .key) net k wanted figure
       × (figure ≤ mostWeight)
   -- "There is none" exactly in the two cases that the request names
   pub none : (net : Network) → decode f sheet ≡ accepted net [] → k < linkCount net
-      → (n ≡ 20) ↔ (TooLight net k wanted ⊎ TooThick (f .rules .rank) net k wanted)
+      → (n ≡ 20) ↔ (TooLight net k wanted ⊎ TooThick (f .rules .key) net k wanted)

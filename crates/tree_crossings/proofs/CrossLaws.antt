@@ -1,4 +1,4 @@
--- The members of a tree that cross the side of a cell of another, from the rows: they are the bits set in an odd number of its rows.
+-- The members of a tree that cross the side of a cell of another, from the layers: they are the bits set in an odd number of its layers.
 -- Assumes nothing.
 use Prim.Native.Nat.{ℕ, suc, _-_, _/_, _%_, _≤_, _<_}
 use mathlib.Core.Path.{_≡_, refl, sym, ap, ap₂, _∙_}
@@ -32,21 +32,21 @@ use Rattle.tree_ranks.specs.Ranks.{RankedTree}
 use Rattle.tree_ranks.specs.declared.Ranked.{Ranked}
 use Rattle.tree_ranks.proofs.SelectLaws.{members-counted}
 use Rattle.bit_table.specs.Cells.{cellsEnd, isCell, cellHandle, Tabled}
-use Rattle.place_rows.specs.Rows.{rowBit, oddly}
-use Rattle.tree_crossings.specs.Rows.{endPlace, EndsParted, oddCount}
+use Rattle.place_layers.specs.Layers.{layerBit, oddly}
+use Rattle.tree_crossings.specs.Layers.{endPlace, EndsParted, oddCount}
 use Rattle.tree_crossings.specs.Strikes.{sideCrossings, cellCrossings, Struck}
 
--- ---- the rows of the members of one tree, by the places of another
+-- ---- the layers of the members of one tree, by the places of another
 
--- the members of the tree t are listed, and the rows say of each which places part its ends
-pub record Marked (net : Network) (t : Tree) (place rows : List ℕ) : Type 0 where
+-- the members of the tree t are listed, and the layers say of each which places part its ends
+pub record Marked (net : Network) (t : Tree) (place layers : List ℕ) : Type 0 where
   pub firsts : List ℕ
   pub seconds : List ℕ
   pub nodes : ℕ
   pub members : List ℕ
   pub count : ℕ
   pub held : Held net firsts seconds nodes
-  pub ends-parted : EndsParted firsts seconds members count place rows
+  pub ends-parted : EndsParted nodes firsts seconds members count place layers
   pub few : count < mostNodes
   pub there : count ≤ length members
   pub listed : take count members ≡ memberLinks net t
@@ -72,7 +72,7 @@ parted-none net place e =
     ap₂ xor (le-ltb (entry place (linkAt net e .first)) 0 (omega arith)) (le-ltb (entry place (linkAt net e .second)) 0 (omega arith))
     ∙ xor-self false
 
-module _ {net : Network} {t : Tree} {place rows : List ℕ} (m : Marked net t place rows) where
+module _ {net : Network} {t : Tree} {place layers : List ℕ} (m : Marked net t place layers) where
   -- exactly one end of the r-th member stands before place p, by the arrays
   abbrev apart : ℕ → ℕ → Bool
   apart p r = xor (ltb (endPlace (m .firsts) (m .members) place r) p) (ltb (endPlace (m .seconds) (m .members) place r) p)
@@ -81,31 +81,33 @@ module _ {net : Network} {t : Tree} {place rows : List ℕ} (m : Marked net t pl
   unfolding memberLinks
   is-link = listed-within (m .members) (m .count) (linkCount net) (flag (t .members)) (m .listed) (m .there)
 
-  row-parted : (p r : ℕ) → p ≤ mostNodes → r < m .count → rowBit rows p r ≡ parted net place (entry (m .members) r) p
-  row-parted p r b d =
+  layer-parted : (p r : ℕ) → p ≤ net .nodes → r < m .count → layerBit layers p r ≡ parted net place (entry (m .members) r) p
+  layer-parted p r b d =
       let few = m .few in
-      m .ends-parted p r b (omega arith)
+      let n = m .held .sized in
+      m .ends-parted p r (omega arith) (omega arith)
       ∙ ap (λ (x : Bool). x && apart p r) (lt-ltb r (m .count) d)
       ∙ ap₂ (λ (x y : ℕ). xor (ltb (entry place x) p) (ltb (entry place y) p))
       (sym (m .held .firsts (entry (m .members) r) (is-link r d))) (sym (m .held .seconds (entry (m .members) r) (is-link r d)))
 
-  row-past : (p r : ℕ) → p ≤ mostNodes → m .count ≤ r → r < mostNodes → rowBit rows p r ≡ false
-  row-past p r b d l =
-      m .ends-parted p r b l ∙ ap (λ (x : Bool). x && apart p r) (le-ltb r (m .count) d)
+  layer-past : (p r : ℕ) → p ≤ net .nodes → m .count ≤ r → r < mostNodes → layerBit layers p r ≡ false
+  layer-past p r b d l =
+      let n = m .held .sized in
+      m .ends-parted p r (omega arith) l ∙ ap (λ (x : Bool). x && apart p r) (le-ltb r (m .count) d)
 
-  odd-past : (a b c d r : ℕ) → a ≤ mostNodes → b ≤ mostNodes → c ≤ mostNodes → d ≤ mostNodes → m .count ≤ r → r < mostNodes
-      → oddly rows a b c d r ≡ false
+  odd-past : (a b c d r : ℕ) → a ≤ net .nodes → b ≤ net .nodes → c ≤ net .nodes → d ≤ net .nodes → m .count ≤ r → r < mostNodes
+      → oddly layers a b c d r ≡ false
   unfolding xor
-  odd-past a b c d r la lb lc ld l n = rw (row-past a r la l n, row-past b r lb l n, row-past c r lc l n, row-past d r ld l n)
+  odd-past a b c d r la lb lc ld l n = rw (layer-past a r la l n, layer-past b r lb l n, layer-past c r lc l n, layer-past d r ld l n)
 
   -- the members that cross a side are counted
-  crossings-odd : (s : Side) (a b c d : ℕ) → a ≤ mostNodes → b ≤ mostNodes → c ≤ mostNodes → d ≤ mostNodes
-      → ((r : ℕ) → r < m .count → oddly rows a b c d r ≡ crosses net s (entry (m .members) r)) → oddCount rows a b c d ≡ crossings net t s
+  crossings-odd : (s : Side) (a b c d : ℕ) → a ≤ net .nodes → b ≤ net .nodes → c ≤ net .nodes → d ≤ net .nodes
+      → ((r : ℕ) → r < m .count → oddly layers a b c d r ≡ crosses net s (entry (m .members) r)) → oddCount layers a b c d ≡ crossings net t s
   unfolding crossings memberLinks
   crossings-odd s a b c d la lb lc ld g =
       let few = m .few in
       let l : length (memberLinks net t) ≡ m .count = ap length (sym (m .listed)) ∙ length-take-le (m .count) (m .members) (m .there) in
-      count-cut (m .count) mostNodes (oddly rows a b c d) (omega arith) (λ r e f. odd-past a b c d r la lb lc ld e f)
+      count-cut (m .count) mostNodes (oddly layers a b c d) (omega arith) (λ r e f. odd-past a b c d r la lb lc ld e f)
       ∙ sum-congr (m .count) _ _ (λ r e. ap (λ (x : Bool). only x 1) (g r e ∙ ap (crosses net s) (member r e)))
       ∙ ap (λ (n : ℕ). countTo n (λ r. crosses net s (entry (memberLinks net t) r))) (sym l)
       ∙ select-count (linkCount net) (flag (t .members)) (crosses net s)
@@ -115,22 +117,22 @@ module _ {net : Network} {t : Tree} {place rows : List ℕ} (m : Marked net t pl
 
 -- ---- the side of one link of the other tree, and of two
 
-module _ {net : Network} {t t′ : Tree} {place node stops links rows : List ℕ} (k : Kept net t place node stops links)
-    (m : Marked net t′ place rows) (small : net .nodes ≤ mostNodes) where
-  no-row : (r : ℕ) → r < m .count → rowBit rows 0 r ≡ false
-  no-row r l = row-parted m 0 r (omega arith) l ∙ parted-none net place (entry (m .members) r)
+module _ {net : Network} {t t′ : Tree} {place node stops links layers : List ℕ} (k : Kept net t place node stops links)
+    (m : Marked net t′ place layers) where
+  no-layer : (r : ℕ) → r < m .count → layerBit layers 0 r ≡ false
+  no-layer r l = layer-parted m 0 r (omega arith) l ∙ parted-none net place (entry (m .members) r)
 
-  crossings-one : (u : ℕ) → 0 < u → u < net .nodes → oddCount rows (entry stops u) u 0 0 ≡ crossings net t′ (below net t (entry links u))
+  crossings-one : (u : ℕ) → 0 < u → u < net .nodes → oddCount layers (entry stops u) u 0 0 ≡ crossings net t′ (below net t (entry links u))
   crossings-one u z d =
       let top = k .most u d in
       crossings-odd m (below net t (entry links u)) (entry stops u) u 0 0 (omega arith) (omega arith) (omega arith) (omega arith)
       (λ r l. let e = entry (m .members) r in
-      ap₂ xor (ap₂ xor (row-parted m (entry stops u) r (omega arith) l) (row-parted m u r (omega arith) l))
-      (ap₂ xor (no-row r l) (no-row r l) ∙ xor-self false)
+      ap₂ xor (ap₂ xor (layer-parted m (entry stops u) r (omega arith) l) (layer-parted m u r (omega arith) l))
+      (ap₂ xor (no-layer r l) (no-layer r l) ∙ xor-self false)
       ∙ xor-false (xor (parted net place e (entry stops u)) (parted net place e u)) ∙ sym (below-parted k e u (is-link m r l) z d))
 
   crossings-two : (u v : ℕ) → 0 < u → u < net .nodes → 0 < v → v < net .nodes
-      → oddCount rows (entry stops u) u (entry stops v) v ≡ crossings net t′ (symDiff (below net t (entry links u)) (below net t (entry links v)))
+      → oddCount layers (entry stops u) u (entry stops v) v ≡ crossings net t′ (symDiff (below net t (entry links u)) (below net t (entry links v)))
   crossings-two u v z d y f =
       let top = k .most u d in
       let end = k .most v f in
@@ -138,16 +140,15 @@ module _ {net : Network} {t t′ : Tree} {place node stops links rows : List ℕ
       (omega arith) (omega arith) (omega arith) (omega arith)
       (λ r l. let e = entry (m .members) r in
       ap₂ xor
-      (ap₂ xor (row-parted m (entry stops u) r (omega arith) l) (row-parted m u r (omega arith) l) ∙ sym (below-parted k e u (is-link m r l) z d))
-      (ap₂ xor (row-parted m (entry stops v) r (omega arith) l) (row-parted m v r (omega arith) l) ∙ sym (below-parted k e v (is-link m r l) y f))
+      (ap₂ xor (layer-parted m (entry stops u) r (omega arith) l) (layer-parted m u r (omega arith) l) ∙ sym (below-parted k e u (is-link m r l) z d))
+      (ap₂ xor (layer-parted m (entry stops v) r (omega arith) l) (layer-parted m v r (omega arith) l) ∙ sym (below-parted k e v (is-link m r l) y f))
       ∙ sym (crosses-symDiff net (below net t (entry links u)) (below net t (entry links v)) e))
 
 -- ---- cells
 
-module _ {net : Network} {t t′ : Tree} {r : Ranked} {rows : List ℕ} (k : RankedTree net t r) (m : Marked net t′ (r .place) rows)
-    (small : net .nodes ≤ mostNodes) where
+module _ {net : Network} {t t′ : Tree} {r : Ranked} {layers : List ℕ} (k : RankedTree net t r) (m : Marked net t′ (r .place) layers) where
   pub cell-crosses : (q : ℕ) → q / mostNodes ≤ q % mostNodes → q % mostNodes < length (memberLinks net t)
-      → cellCrossings rows (r .stops) (r .at) q ≡ crossings net t′ (sideOf net t (cellHandle (memberLinks net t) q))
+      → cellCrossings layers (r .stops) (r .at) q ≡ crossings net t′ (sideOf net t (cellHandle (memberLinks net t) q))
   unfolding sideCrossings sideOf
   cell-crosses q up b = go (ℕ-discrete i j)
     where
@@ -164,30 +165,30 @@ module _ {net : Network} {t t′ : Tree} {r : Ranked} {rows : List ℕ} (k : Ran
       last = let n = members-counted (k .kept .spanning) in omega arith
 
       go : Dec (i ≡ j)
-          → sideCrossings rows (r .stops) (eqb i j) (entry (r .at) i) (entry (r .at) j)
+          → sideCrossings layers (r .stops) (eqb i j) (entry (r .at) i) (entry (r .at) j)
           ≡ crossings net t′ (sideOf net t (chosen (entry ms i) (entry ms j)))
       go (yes e) =
           let s = last in
           rw (← e, eq-eqb i i refl, eq-eqb (entry ms i) (entry ms i) refl)
-          (crossings-one (k .kept) m small (entry (r .at) i) (k .ranks .some i (omega arith)) (k .ranks .within i (omega arith))
+          (crossings-one (k .kept) m (entry (r .at) i) (k .ranks .some i (omega arith)) (k .ranks .within i (omega arith))
           ∙ ap (λ (x : ℕ). crossings net t′ (below net t x)) (k .ranks .member i (omega arith)))
       go (no e) =
           let s = last in
           let l = each-at _<_ 0 ms (members-rising net t) i j (omega arith) b in
           rw (ne-eqb i j e, ne-eqb (entry ms i) (entry ms j) (λ z. omega arith))
-          (crossings-two (k .kept) m small (entry (r .at) i) (entry (r .at) j)
+          (crossings-two (k .kept) m (entry (r .at) i) (entry (r .at) j)
           (k .ranks .some i (omega arith)) (k .ranks .within i (omega arith))
           (k .ranks .some j (omega arith)) (k .ranks .within j (omega arith))
           ∙ ap₂ (λ (x y : ℕ). crossings net t′ (symDiff (below net t x) (below net t y)))
           (k .ranks .member i (omega arith)) (k .ranks .member j (omega arith)))
 
   pub tabled-struck : (p : Handle → Bool) (before after : List ℕ) → Tabled net t p before
-      → Struck (net .nodes) rows (r .stops) (r .at) before after
+      → Struck (net .nodes) layers (r .stops) (r .at) before after
       → Tabled net t (λ h. p h && not (leb (crossings net t′ (sideOf net t h)) 2)) after
   tabled-struck p before after f g q = g q ∙ ap (λ (x : Bool). x && not struck) (f q) ∙ go (truth (isCell (length ms) q))
     where
       struck : Bool
-      struck = ltb q (cellsEnd (net .nodes - 1)) && leb (cellCrossings rows (r .stops) (r .at) q) 2
+      struck = ltb q (cellsEnd (net .nodes - 1)) && leb (cellCrossings layers (r .stops) (r .at) q) 2
 
       ms : List ℕ
       ms = memberLinks net t

@@ -1,3 +1,3 @@
-pub mod RowLaws
+pub mod LayerLaws
 pub mod StrikeLaws
 pub mod CrossLaws

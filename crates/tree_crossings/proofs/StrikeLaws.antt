@@ -10,7 +10,7 @@ use lib.Dec.{eqb, ltb}
 use borrow.Author.Tests.{eq-eqb, ne-eqb, lt-ltb, le-ltb}
 use Rattle.cuts.proofs.FlagLaws.{xor-false, xor-self}
 use Rattle.bit_table.specs.Bits.{bitOf, NextBit}
-use Rattle.place_rows.proofs.RowLaws.{below-next}
+use Rattle.place_layers.proofs.LayerLaws.{below-next}
 
 module _ (light : ℕ → Bool) (before : List ℕ) where
   -- the cells in front of q that pass the test are struck out

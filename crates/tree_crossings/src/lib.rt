@@ -1,14 +1,13 @@
 // The sides of one tree that cross at most two members of another, struck out of a table of its cells.
-use bit_table::clear_bits;
 use bit_table::flip_bit;
 use bit_table::next_bit;
 use format::limits::MOST_LINKS;
 use format::limits::MOST_NODES;
 use format::maps::list_members;
-use place_rows::ROW;
-use place_rows::ROWS;
-use place_rows::odd_word;
-use place_rows::sum_rows;
+use place_layers::LAYER;
+use place_layers::LAYERS;
+use place_layers::odd_word;
+use place_layers::sum_layers;
 use tree_ranks::Ranked;
 use tree_ranks::TABLE;
 ghost use mathlib.Core.Path.{_≡_};
@@ -24,8 +23,8 @@ ghost use Rattle.sheet.specs.Bytes.{mapBit};
 ghost use Rattle.tree_ranks.specs.Ranks.{RankedTree};
 ghost use Rattle.bit_table.specs.Bits.{wordBits, wordBit};
 ghost use Rattle.bit_table.specs.Cells.{Tabled};
-ghost use Rattle.place_rows.specs.Rows.{FourRows};
-ghost use Rattle.tree_crossings.specs.Rows.{EndPlaced, PlaceOf, Placeable, EndsFlipped, EndsParted, oddCount};
+ghost use Rattle.place_layers.specs.Layers.{FourLayers};
+ghost use Rattle.tree_crossings.specs.Layers.{EndPlaced, PlaceOf, Placeable, EndsFlipped, EndsParted, oddCount};
 ghost use Rattle.tree_crossings.specs.Strikes.{CellThere, cellCrossings, CellsThere, Struck, Strikable};
 
 // The place of a link's end.
@@ -36,9 +35,9 @@ fn place_of(ends: &[u8], place: &[u8], link: usize) -> usize
     place[ends[link] as usize] as usize
 }
 
-// Sets the bit of a member in the row behind the place of each end, but not where both have one place. No other is set.
+// Sets the bit of a member in the layer behind the place of each end, but not where both have one place. No other is set.
 fn flip_ends(
-    rows: &mut [u64],
+    layers: &mut [u64],
     nodes: usize,
     firsts: &[u8],
     seconds: &[u8],
@@ -46,25 +45,25 @@ fn flip_ends(
     count: usize,
     place: &[u8],
 )
-    requires { ⌜ Placeable (now rows) nodes (now firsts) (now seconds) (now members) count (now place) ⌝ }
+    requires { ⌜ Placeable (now layers) nodes (now firsts) (now seconds) (now members) count (now place) ⌝ }
     ensures { λ _. ⌜ EndsFlipped (now (firsts .entry)) (now (seconds .entry)) (now (members .entry)) count
-        (now (place .entry)) (now (rows .exit)) ⌝ }
+        (now (place .entry)) (now (layers .exit)) ⌝ }
 {
-    clear_bits(rows);
     let mut r = 0;
     while r < count {
         let link = members[r] as usize;
         let first = place_of(firsts, place, link);
         let second = place_of(seconds, place, link);
-        flip_bit(rows, MOST_NODES * (first + 1) + r);
-        flip_bit(rows, MOST_NODES * (second + 1) + r);
+        flip_bit(layers, MOST_NODES * (first + 1) + r);
+        flip_bit(layers, MOST_NODES * (second + 1) + r);
         r += 1;
     }
 }
 
-// Sets the bit of each member in the rows of the places that exactly one of its ends stands before, and no other bit.
-fn mark_rows(
-    rows: &mut [u64],
+// Sets the bit of each member in the layers of the places that exactly one of its ends stands before, and no other bit, up
+// to the layer behind the last place. No bit may be set before.
+fn mark_layers(
+    layers: &mut [u64],
     nodes: usize,
     firsts: &[u8],
     seconds: &[u8],
@@ -72,24 +71,24 @@ fn mark_rows(
     count: usize,
     place: &[u8],
 )
-    requires { ⌜ Placeable (now rows) nodes (now firsts) (now seconds) (now members) count (now place) ⌝ }
-    ensures { λ _. ⌜ EndsParted (now (firsts .entry)) (now (seconds .entry)) (now (members .entry)) count
-        (now (place .entry)) (now (rows .exit)) ⌝ }
+    requires { ⌜ Placeable (now layers) nodes (now firsts) (now seconds) (now members) count (now place) ⌝ }
+    ensures { λ _. ⌜ EndsParted nodes (now (firsts .entry)) (now (seconds .entry)) (now (members .entry)) count
+        (now (place .entry)) (now (layers .exit)) ⌝ }
 {
-    flip_ends(rows, nodes, firsts, seconds, members, count, place);
-    sum_rows(rows);
+    flip_ends(layers, nodes, firsts, seconds, members, count, place);
+    sum_layers(layers, nodes);
 }
 
 // A count with the set bits of a word added, but no more than three.
 fn few_more(word: u64, count: usize) -> usize
-    requires { ⌜ count ≤ 3 ⌝ }
+    requires { ⌜ count ≤ 2 ⌝ }
     ensures { λ r. ⌜ r ≡ min (count + countTo wordBits (wordBit word)) 3 ⌝ }
 {
     let mut left = word;
     let mut sum = count;
-    while sum < 3 {
-        if left == 0 {
-            return sum;
+    while left != 0 {
+        if sum == 2 {
+            return 3;
         }
         left = left & (left - 1);
         sum += 1;
@@ -97,15 +96,15 @@ fn few_more(word: u64, count: usize) -> usize
     sum
 }
 
-// Whether at most two bits are set in an odd number of four rows.
-fn crosses_few(rows: &[u64; ROWS], a: usize, b: usize, c: usize, d: usize) -> bool
-    requires { ⌜ FourRows a b c d ⌝ }
-    ensures { λ r. ⌜ r ≡ leb (oddCount (now (rows .entry)) a b c d) 2 ⌝ }
+// Whether at most two bits are set in an odd number of four layers.
+fn crosses_few(layers: &[u64; LAYERS], a: usize, b: usize, c: usize, d: usize) -> bool
+    requires { ⌜ FourLayers a b c d ⌝ }
+    ensures { λ r. ⌜ r ≡ leb (oddCount (now (layers .entry)) a b c d) 2 ⌝ }
 {
     let mut count = 0;
     let mut j = 0;
-    while j < ROW {
-        count = few_more(odd_word(rows, a, b, c, d, j), count);
+    while j < LAYER {
+        count = few_more(odd_word(layers, a, b, c, d, j), count);
         if count > 2 {
             return false;
         }
@@ -114,34 +113,35 @@ fn crosses_few(rows: &[u64; ROWS], a: usize, b: usize, c: usize, d: usize) -> bo
     true
 }
 
-// Whether at most two members cross the side of the cell at bit q. For the cell of one link the first row, which has no
-// bit set, stands for both rows of a second.
-fn cell_struck(rows: &[u64; ROWS], stops: &[u16], at: &[u8], q: usize) -> bool
+// Whether at most two members cross the side of the cell at bit q. For the cell of one link the first layer, which has no
+// bit set, stands for both layers of a second.
+fn cell_struck(layers: &[u64; LAYERS], stops: &[u16], at: &[u8], q: usize) -> bool
     requires { ⌜ CellThere (now stops) (now at) q ⌝ }
-    ensures { λ r. ⌜ r ≡ leb (cellCrossings (now (rows .entry)) (now (stops .entry)) (now (at .entry)) q) 2 ⌝ }
+    ensures { λ r. ⌜ r ≡ leb (cellCrossings (now (layers .entry)) (now (stops .entry)) (now (at .entry)) q) 2 ⌝ }
 {
     let first = q / MOST_NODES;
     let second = q % MOST_NODES;
     let u = at[first] as usize;
     let to = stops[u] as usize;
-    if first == second {
-        return crosses_few(rows, to, u, 0, 0);
+    let mut v = 0;
+    let mut end = 0;
+    if first != second {
+        v = at[second] as usize;
+        end = stops[v] as usize;
     }
-    let v = at[second] as usize;
-    let end = stops[v] as usize;
-    crosses_few(rows, to, u, end, v)
+    crosses_few(layers, to, u, end, v)
 }
 
 // Turns off the bits of the cells whose sides cross at most two members.
-fn strike(table: &mut [u64], rows: &[u64; ROWS], nodes: usize, stops: &[u16], at: &[u8])
+fn strike(table: &mut [u64], layers: &[u64; LAYERS], nodes: usize, stops: &[u16], at: &[u8])
     requires { ⌜ CellsThere (now table) nodes (now stops) (now at) ⌝ }
-    ensures { λ _. ⌜ Struck nodes (now (rows .entry)) (now (stops .entry)) (now (at .entry))
+    ensures { λ _. ⌜ Struck nodes (now (layers .entry)) (now (stops .entry)) (now (at .entry))
         (now (table .entry)) (now (table .exit)) ⌝ }
 {
     let end = (nodes - 1) * MOST_NODES;
     let mut q = next_bit(table, 0, end);
     while q < end {
-        if cell_struck(rows, stops, at, q) {
+        if cell_struck(layers, stops, at, q) {
             flip_bit(table, q);
         }
         q = next_bit(table, q + 1, end);
@@ -167,9 +167,9 @@ pub fn strike_tree(
     let mut members = [0u16; MOST_NODES];
     let count = list_members(&mut members, map, links);
     let place = r.place;
-    let mut rows = [0u64; ROWS];
-    mark_rows(
-        &mut rows,
+    let mut layers = [0u64; LAYERS];
+    mark_layers(
+        &mut layers,
         nodes,
         &ends[0],
         &ends[1],
@@ -179,5 +179,5 @@ pub fn strike_tree(
     );
     let stops = r.stops;
     let at = r.at;
-    strike(table, &rows, nodes, &stops, &at);
+    strike(table, &layers, nodes, &stops, &at);
 }

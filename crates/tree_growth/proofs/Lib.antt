@@ -1,5 +1,1 @@
-pub mod EndsLaws
 pub mod QueueLaws
-pub mod CountLaws
-pub mod FillLaws
-pub mod RunLaws

@@ -27,7 +27,7 @@ use Rattle.arrays.specs.Grown.{GrownTree}
 use Rattle.arrays.proofs.OrderLaws.{ordered-spans, lower-end}
 use Rattle.arrays.proofs.GrowthLaws.{Growing, Quiet, growing-step, growing-stuck, growing-done}
 use Rattle.arrays.specs.ByNode.{touches, far, ByNode}
-use Rattle.tree_growth.proofs.EndsLaws.{linksAt-of, linksAt-in, run-mem, run-place}
+use Rattle.by_node.proofs.EndsLaws.{linksAt-of, linksAt-in, run-mem, run-place}
 
 -- the far ends of the links at x in the entries from `from` up to, not including, `to` are reached
 abbrev pub Spent : List ℕ → List ℕ → List ℕ → List ℕ → ℕ → ℕ → ℕ → Type 0

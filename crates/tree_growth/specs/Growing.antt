@@ -1,14 +1,15 @@
 -- What growing a tree asks. Assumes nothing.
---   Growable fs ss ms count n    the first `count` numbers of ms are links to grow a tree of n nodes with, the root among the nodes
---   Queueable o p l n fs ss ls   the array ls lists such links by node, whichever they are, and o, p and l have room for all nodes that
---                                there may be
+--   Growable fs ss ms count nodes   the first `count` numbers of ms are links to grow a tree of so many nodes with, the root among the nodes
+--   Queueable order parents uplinks nodes fs ss lists
+--                                   the array `lists` lists such links by node, whichever they are, and `order`, `parents` and `uplinks` have room
+--                                   for all nodes that there may be
 use Prim.Native.Nat.{ℕ, _+_, _≤_, _<_}
 use mathlib.Core.Path.{_≡_}
 use mathlib.Core.List.{List}
 use lib.ListN.{length}
 use Rattle.cuts.specs.Limits.{mostNodes}
 use Rattle.arrays.specs.ByNode.{ByNode, starts, runs}
-use Rattle.tree_growth.specs.Runs.{Chosen}
+use Rattle.by_node.specs.Runs.{Chosen}
 
 pub record Growable (fs ss ms : List ℕ) (count nodes : ℕ) : Type 0 where
   pub some : 0 < nodes

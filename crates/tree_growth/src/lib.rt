@@ -1,14 +1,10 @@
 // Grows a tree from the root, node 0, in time linear in its nodes and members: each node's members are looked at once, when its turn in
 // the order comes. The tree may be any choice of links; the answer says whether they join all nodes.
 // The ends of link k stand in firsts[k] and seconds[k].
-pub mod by_node; // links by node
-
 use by_node::STARTS;
+use by_node::far_end;
 use by_node::list_by_node;
 use format::limits::MOST_NODES;
-ghost use mathlib.Core.Path.{_≡_};
-ghost use mathlib.Core.Bool.{cond};
-ghost use lib.Dec.{eqb};
 ghost use Rattle.cuts.specs.Network.{Network, Tree};
 ghost use Rattle.cuts.specs.Candidate.{memberLinks};
 ghost use Rattle.arrays.specs.Links.{Held};
@@ -25,13 +21,6 @@ pub struct Grown {
     pub order: [u8; MOST_NODES],
     pub parents: [u8; MOST_NODES],
     pub uplinks: [u16; MOST_NODES],
-}
-
-// The other one of a link's two ends.
-pub fn far_end(first: u8, second: u8, x: u8) -> u8
-    ensures { λ r. ⌜ r ≡ cond (eqb first x) second first ⌝ }
-{
-    if first == x { second } else { first }
 }
 
 // Whether the tree's members, listed by node in `lists`, join every node to the root; if so, `order`, `parents` and `uplinks`, the parent

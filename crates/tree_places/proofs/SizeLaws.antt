@@ -134,8 +134,8 @@ module _ {net : Network} {t : Tree} {order parents uplinks : List ℕ} (g : Span
 -- ---- the pass over lists of mostNodes numbers, with sums to mostNodes
 
 module _ {net : Network} {t : Tree} {order parents uplinks : List ℕ} {nodes : ℕ} (r : Rooted net t order parents uplinks nodes) where
-  pub sized-first : (sizes : List ℕ) → nodes ≤ mostNodes → ((x : ℕ) → x < mostNodes → entry sizes x ≡ 1) → SizedFrom net t order parents uplinks nodes sizes
-  sized-first sizes m h =
+  pub sized-first : (sizes : List ℕ) → ((x : ℕ) → x < nodes → entry sizes x ≡ 1) → SizedFrom net t order parents uplinks nodes sizes
+  sized-first sizes h =
       let e = r .counted in
       subst (λ (n : ℕ). SizedFrom net t order parents uplinks n sizes) e (sized-start (r .spanning) (r .ordered) sizes (λ x b. h x (omega arith)))
 

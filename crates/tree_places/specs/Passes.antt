@@ -1,17 +1,18 @@
--- What the passes over a tree's order have computed when they have come to position i. Assumes nothing.
---   child o p v j                 position j of the order o, but not the first, holds a child of v
---   SizedFrom net t o p l i s     s has for each node the sizes of its children's subtrees from position i on, and one for itself
+-- What the passes over a tree's order have computed when they have come to its i-th node, from 0. Assumes nothing.
+--   child o p v j                 the j-th node of the order o is not the first, and is a child of v
+--   SizedFrom net t o p l i s     s has for each node the sizes of the subtrees of its children, from the i-th node on, and one for itself
 --   heavier s h x                 the one of the nodes h and x with the larger size, h if they are even; x where h is 0
---   Heavy o p s h i               h has for each node the heaviest of its children before position i, 0 where it has none there
+--   Heavy o p s h i               h has for each node the heaviest of its children before the i-th node, 0 where it has none there
 --   sizeIn s h                    the size of the node h, 0 where h is 0, which stands for no child
---   inFront o p s h v i           the sizes of the children of v before position i, but for the heaviest
---   shift o p s h v j             how far behind its first child's place v's child at position j stands
+--   inFront o p s h v i           the sizes of the children of v before the i-th node, but for the heaviest
+--   shift o p s h v j             how far v's child that is the j-th node stands behind the place of v's first child
 --   seat h a f v x                the place for the child x of v, where v has its place in a and its first free place in f
 --   freed h s f v x               f when x has its places
---   Settled a b f x at size heaviest a' b' f'   node x has its place, its stop and its first free place, behind its heaviest child's places:
---                                 a', b' and f' are a, b and f with these, as the passes compute them
---   Placing net o p s h i a b f   the nodes before position i have their places in a and stops in b, none past the number of nodes, and f
---                                 has for each of them the first free place for a child that is not its heaviest
+--   Settled a b f x at size heaviest a' b' f'
+--                                 node x has its place, its stop and its first free place, behind its heaviest child's places: a', b' and f' are a,
+--                                 b and f with these, as the passes compute them
+--   Placing net o p s h i a b f   the nodes before the i-th have their places in a and stops in b, none past the number of nodes, and f has for each
+--                                 of them the first free place for a child that is not its heaviest
 use Prim.Native.Nat.{ℕ, _+_, _%_, _≤_, _<_}
 use mathlib.Core.Path.{_≡_}
 use mathlib.Core.Bool.{Bool, _&&_, not, cond}
@@ -24,7 +25,7 @@ use Rattle.cuts.specs.Limits.{mostNodes}
 use Rattle.arrays.specs.Lists.{entry}
 use Rattle.tree_places.specs.Places.{stopNumbers, subtree}
 
--- ---- sizes, from the last position on
+-- ---- sizes, from the last node on
 
 abbrev pub child : List ℕ → List ℕ → ℕ → ℕ → Bool
 child order parents v j = leb 1 j && eqb (entry parents (entry order j)) v

@@ -7,6 +7,7 @@ use tree_growth::Grown;
 ghost use mathlib.Core.Path.{_≡_};
 ghost use mathlib.Core.List.{List};
 ghost use Prim.Native.Nat.{ℕ, _+_, _%_, _≤_, _<_};
+ghost use lib.ListN.{length};
 ghost use Rattle.cuts.specs.Network.{Network, Tree};
 ghost use Rattle.cuts.specs.Limits.{mostNodes};
 ghost use Rattle.arrays.specs.Lists.{entry};
@@ -43,16 +44,14 @@ fn sum(a: u16, b: u16) -> u16
 }
 
 // What each node adds of itself to the size of its subtree.
-fn own_sizes() -> [u16; MOST_NODES]
-    ensures { λ r. ⌜ ((x : ℕ) → x < mostNodes → entry r x ≡ 1) ⌝ }
+fn own_sizes(sizes: &mut [u16])
+    ensures { λ _. ⌜ ((x : ℕ) → x < length (now (sizes .entry)) → entry (now (sizes .exit)) x ≡ 1) ⌝ }
 {
-    let mut sizes = [0u16; MOST_NODES];
     let mut x = 0;
-    while x < MOST_NODES {
+    while x < sizes.len() {
         sizes[x] = 1;
         x += 1;
     }
-    sizes
 }
 
 // The size of each node's subtree: each node adds its own to its parent's, the last in the order first.
@@ -65,7 +64,8 @@ fn subtree_sizes(
     ensures { λ r. ⌜ ((net : Network) (t : Tree) (uplinks : List ℕ) → Rooted net t order parents uplinks nodes
         → Sized net t uplinks r) ⌝ }
 {
-    let mut sizes = own_sizes();
+    let mut sizes = [0u16; MOST_NODES];
+    own_sizes(&mut sizes[0..nodes]);
     let mut i = nodes;
     while i > 1 {
         i -= 1;

@@ -1,7 +1,7 @@
 -- A network of five nodes and seven links, a spanning tree of it and the arrays that hold both: what is asked of the arrays can be met,
 -- and the definitions give every pair of its links the weight that the row's law says.
 --   small           the network, with the tree
---   kept, indexed, searchable, searched   its arrays are as a row needs them
+--   kept, indexed, searchable, tree-held   its arrays are as a row needs them
 --   pairs           all pairs, by computing both sides
 -- Assumes nothing.
 use Prim.Native.Nat.{ℕ, zero, suc, _+_, _-_, _*_, _^_, _<_}
@@ -25,8 +25,9 @@ use Rattle.cuts.proofs.ListLaws.{mem-at}
 use Rattle.arrays.specs.Lists.{entry}
 use Rattle.arrays.specs.ByNode.{linksAt, starts, runs, Indexed}
 use Rattle.arrays.specs.Kept.{within, LinksAt, Kept}
-use Rattle.tree_rows.specs.Rows.{sumOver, crossing, paired}
-use Rattle.tree_rows.specs.Making.{Searchable, Searched}
+use Rattle.search_order.specs.Visits.{handleAt}
+use Rattle.tree_rows.specs.Rows.{sumOver, crossing}
+use Rattle.tree_rows.specs.Making.{Searchable, TreeHeld}
 
 abbrev link : ℕ → ℕ → ℕ → Link
 link a b w = record { first = a; second = b; weight = w }
@@ -200,14 +201,14 @@ searchable = record {
   stops-in = λ i b. ltb-true _ (mostNodes + 1) (allTo-at mostNodes (λ i. ltb (entry stops i) (mostNodes + 1)) refl i b);
 }
 
-pub searched : Searched small grown (firsts ∷ seconds ∷ []) weights lists place node stops links 5
-searched = record { count = 7; indexed = indexed; kept = kept }
+pub tree-held : TreeHeld small grown (firsts ∷ seconds ∷ []) weights lists place node stops links 5
+tree-held = record { count = 7; indexed = indexed; kept = kept }
 
 -- ---- all pairs
 
 pub pairs : allTo 5 (λ v. allTo v (λ u.
     let single : ℕ → ℕ = λ p. weightOf small grown (one (entry links p)) in
     let upTo : ℕ → ℕ = λ y. sumOver u y (crossing small place u (entry stops u)) in
-    eqb u 0 || eqb (weightOf small grown (paired (entry links u) (entry links v))) (single u + single v - 2 * (upTo (entry stops v) - upTo v)))) ≡ true
+    eqb u 0 || eqb (weightOf small grown (handleAt links u v)) (single u + single v - 2 * (upTo (entry stops v) - upTo v)))) ≡ true
 unfolding allTo weightOf sumOver crossing
 pairs = refl

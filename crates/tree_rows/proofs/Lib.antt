@@ -8,4 +8,5 @@ pub mod AddLaws
 pub mod PartLaws
 pub mod SumLaws
 pub mod RowLaws
+pub mod LoopLaws
 pub mod Cases

@@ -1,13 +1,13 @@
 -- The weights of a tree's links, alone and two by two, from what crosses the places below one link: alone, the sum at those places; of a
 -- pair, what both share is the sum at the places below the later link, whether these lie among the first ones or apart from them.
 -- Assumes nothing.
-use Prim.Native.Nat.{ℕ, _+_, _-_, _*_, _≤_, _<_}
+use Prim.Native.Nat.{ℕ, _+_, _-_, _*_, _≤_, _<_, min, max}
 use mathlib.Core.Path.{_≡_, refl, sym, ap, ap₂, _∙_}
-use mathlib.Core.Bool.{Bool, true, false, _&&_, xor, cond}
+use mathlib.Core.Logic.{_⊎_, inl, inr}
+use mathlib.Core.Bool.{Bool, true, false, _&&_, xor}
 use mathlib.Core.List.{List}
 use native.Mathlib.Decide.{decLt}
 use native.Mathlib.Omega.{arith}
-use lib.Dec.{ltb}
 use Rattle.cuts.specs.Sums.{only}
 use Rattle.cuts.specs.Network.{Tree, Network, linkCount}
 use Rattle.cuts.specs.Cut.{Side, crosses, cutWeight}
@@ -20,7 +20,10 @@ use Rattle.arrays.specs.Lists.{entry}
 use Rattle.arrays.specs.Kept.{within, Kept}
 use Rattle.tree_places.proofs.WithinLaws.{within-in, within-behind, within-is}
 use Rattle.tree_places.proofs.StopLaws.{stops-nest}
-use Rattle.tree_rows.specs.Rows.{sumOver, weightAt, firstPlace, secondPlace, crossing, paired}
+use Rattle.search_order.specs.Choice.{chosen}
+use Rattle.search_order.specs.Visits.{handleAt}
+use Rattle.search_order.proofs.HandleLaws.{three-ways, chosen-two}
+use Rattle.tree_rows.specs.Rows.{sumOver, weightAt, firstPlace, secondPlace, crossing}
 use Rattle.tree_rows.proofs.OverLaws.{over-join}
 use Rattle.tree_rows.proofs.CrossLaws.{crossed, crossing-sum}
 
@@ -115,15 +118,21 @@ module _ {net : Network} {t : Tree} {place node stops links : List ℕ} (w : Kep
         ap (λ (n : ℕ). sumOver u v (crossing-of u) + n) shared-sum ∙ over-join u v (entry stops v) (crossing-of u) (omega arith) (omega (arith, w .some v b))
 
     -- the links at u and v as a pair
-    pub pair-sum : weightOf net t (paired (entry links u) (entry links v))
-        ≡ single u + single v - 2 * (sumOver u (entry stops v) (crossing-of u) - sumOver u v (crossing-of u))
+    pub pair-sum : weightOf net t (handleAt links u v) ≡ single u + single v - 2 * (sumOver u (entry stops v) (crossing-of u) - sumOver u v (crossing-of u))
     unfolding weightOf pairWeight
-    pair-sum = go (ltb (entry links u) (entry links v))
+    pair-sum = go (three-ways (entry links u) (entry links v))
       where
-        go : (x : Bool) → weightOf net t (cond x (two (entry links u) (entry links v)) (two (entry links v) (entry links u)))
-            ≡ single u + single v - 2 * (sumOver u (entry stops v) (crossing-of u) - sumOver u v (crossing-of u))
-        go true = let e = shared-prefix in omega arith
-        go false = let e = shared-prefix in let s = shared-swap net (side v) (side u) in omega arith
+        of-two : (e f : ℕ) → e < f → min (entry links u) (entry links v) ≡ e → max (entry links u) (entry links v) ≡ f
+            → weightOf net t (handleAt links u v) ≡ weightOf net t (two e f)
+        of-two e f l p q = ap (weightOf net t) (ap₂ chosen p q ∙ chosen-two e f l)
+
+        go : (entry links u ≡ entry links v) ⊎ ((entry links u < entry links v) ⊎ (entry links v < entry links u))
+            → weightOf net t (handleAt links u v) ≡ single u + single v - 2 * (sumOver u (entry stops v) (crossing-of u) - sumOver u v (crossing-of u))
+        go (inl q) = absurd (let i = w .links-at .once u v z (omega arith) (omega arith) b q in omega arith)
+        go (inr (inl m)) = of-two (entry links u) (entry links v) m (omega arith) (omega arith) ∙ (let e = shared-prefix in omega arith)
+        go (inr (inr m)) =
+            of-two (entry links v) (entry links u) m (omega arith) (omega arith)
+            ∙ (let e = shared-prefix in let s = shared-swap net (side v) (side u) in omega arith)
 
     -- no difference goes below 0
     pub pair-room : (sumOver u v (crossing-of u) ≤ sumOver u (entry stops v) (crossing-of u))

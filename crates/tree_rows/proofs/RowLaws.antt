@@ -1,5 +1,4 @@
--- A row made from the row behind it: where it starts, one node's links more, and the weights read off. Before them, what those who make
--- rows begin with.
+-- A row made from the row behind it: where it starts, one node's links more, and the weights read off.
 -- Assumes nothing.
 use Prim.Native.Nat.{ℕ, zero, suc, _+_, _%_, _^_, _≤_, _<_}
 use mathlib.Core.Path.{_≡_, refl, sym, ap, _∙_}
@@ -7,26 +6,21 @@ use mathlib.Core.Logic.{_⊎_, inl, inr}
 use mathlib.Core.List.{List, _++_}
 use native.Mathlib.Nat.{eq-or-lt-of-le}
 use native.Mathlib.Omega.{arith}
-use lib.ListN.{replicate}
+use lib.ListN.{length, set, replicate}
+use lib.Seq.{getD-set-same, getD-set-other}
 use Rattle.cuts.specs.Network.{Tree, Network}
 use Rattle.cuts.specs.Candidate.{one, weightOf}
-use Rattle.cuts.specs.Limits.{mostNodes, mostLinks, fourBytes, Light}
+use Rattle.cuts.specs.Limits.{mostNodes, Light}
 use Rattle.arrays.specs.Lists.{entry}
-use Rattle.arrays.specs.Links.{Laid}
 use Rattle.arrays.specs.Kept.{Kept}
 use Rattle.tree_places.proofs.StopLaws.{stops-nest}
-use Rattle.tree_rows.specs.Rows.{tally, paired, degreesFrom, singlesFrom, talliesIn, singlesIn, sumsIn, Added, Tallied, Summed, RowTallied, Row}
-use Rattle.tree_rows.specs.Making.{RowStart, Beside}
+use Rattle.search_order.specs.Visits.{handleAt}
+use Rattle.tree_rows.specs.Rows.{tally, degreesFrom, singlesFrom, talliesIn, singlesIn, sumsIn, Added, Tallied, Summed, RowTallied, Row}
+use Rattle.tree_rows.specs.Making.{RowStart}
 use Rattle.tree_rows.proofs.CrossLaws.{tally-join, tally-none, tally-small, crossing-small}
 use Rattle.tree_rows.proofs.PairLaws.{single-sum, pair-sum, pair-room}
 use Rattle.tree_rows.proofs.WrapLaws.{wrap-pair}
 use Rattle.tree_rows.proofs.PartLaws.{singlesIn-at, sumsIn-at}
-
--- ---- for those who make rows
-
--- the arrays hold light networks only
-pub laid-light : {net : Network} {fs ss ws : List ℕ} {nodes links : ℕ} → Laid net fs ss ws nodes links → links ≤ mostLinks → ((k : ℕ) → entry ws k < fourBytes) → Light net
-laid-light l b h = record { few = let e = l .weighed .counted in omega arith; small = λ k c. let e = l .weighed .weights k c in let d = h k in omega arith }
 
 -- behind the last place there is no row yet
 pub row-end : (net : Network) (t : Tree) (place stops links : List ℕ) (u : ℕ) (figures : List ℕ) → net .nodes ≤ u → Row net t place stops links u figures
@@ -86,19 +80,25 @@ module _ {net : Network} {t : Tree} {place node stops links : List ℕ} (w : Kep
 
 module _ {net : Network} {t : Tree} {place node stops links : List ℕ} (w : Kept net t place node stops links) (u : ℕ) (z : 0 < u) where
   -- from the tallies and sums of u and the singles behind it
-  pub row-made : {before figures : List ℕ} → u < net .nodes → Row net t place stops links (suc u) before
+  pub row-made : {before figures : List ℕ} {single : ℕ} → u < net .nodes → Row net t place stops links (suc u) before
       → Tallied net place u (entry stops u) (talliesIn figures) → Summed net place u (entry stops u) (net .nodes) (sumsIn figures)
-      → entry (singlesIn figures) u ≡ entry (sumsIn figures) (entry stops u) → Beside u before figures → Row net t place stops links u figures
-  row-made {figures = figures} b r k m e o = record { tallied = λ _. k; summed = λ _. m; alone = λ v a d. go v d (eq-or-lt-of-le a) }
+      → single ≡ entry (sumsIn figures) (entry stops u) → singlesIn figures ≡ set (singlesIn before) u single → u < length (singlesIn before)
+      → Row net t place stops links u figures
+  row-made {before} {figures} {single} b r k m e o i = record { tallied = λ _. k; summed = λ _. m; alone = λ v a d. go v d (eq-or-lt-of-le a) }
     where
+      at : (v : ℕ) → entry (singlesIn figures) v ≡ entry (set (singlesIn before) u single) v
+      at v = ap (λ (l : List ℕ). entry l v) o
+
       go : (v : ℕ) → v < net .nodes → (u ≡ v) ⊎ (u < v) → entry (singlesIn figures) v ≡ weightOf net t (one (entry links v))
-      go v d (inl q) = rw (← q) (e ∙ m .is (entry stops u) (omega (arith, w .some u b)) (w .most u b) ∙ sym (single-sum w u z b))
-      go v d (inr q) = o .singles v (λ n. omega arith) ∙ r .alone v q d
+      go v d (inl q) =
+          rw (← q)
+          (at u ∙ getD-set-same (singlesIn before) u single 0 i ∙ e ∙ m .is (entry stops u) (omega (arith, w .some u b)) (w .most u b) ∙ sym (single-sum w u z b))
+      go v d (inr q) = at v ∙ getD-set-other (singlesIn before) u v single 0 (λ n. omega arith) ∙ r .alone v q d
 
   pub row-pair : {figures : List ℕ} → Light net → Row net t place stops links u figures → (v : ℕ) → u < v → v < net .nodes → v < mostNodes → entry stops v < degreesFrom
       → {shared sum twice r : ℕ} → (shared + entry figures v) % 2 ^ 64 ≡ entry figures (entry stops v) → shared < 2 ^ 64
       → sum ≡ (entry figures (singlesFrom + u) + entry figures (singlesFrom + v)) % 2 ^ 64
-      → twice ≡ (shared + shared) % 2 ^ 64 → (r + twice) % 2 ^ 64 ≡ sum → r < 2 ^ 64 → r ≡ weightOf net t (paired (entry links u) (entry links v))
+      → twice ≡ (shared + shared) % 2 ^ 64 → (r + twice) % 2 ^ 64 ≡ sum → r < 2 ^ 64 → r ≡ weightOf net t (handleAt links u v)
   row-pair {figures} l k v a b few near e m g i j n =
       let c : u < net .nodes = omega arith in
       let x = sym (sumsIn-at figures v (omega arith)) ∙ k .summed c .is v (omega arith) (omega arith) in

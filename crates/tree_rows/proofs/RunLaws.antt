@@ -16,8 +16,8 @@ use Rattle.cuts.proofs.ListLaws.{mem-at}
 use Rattle.arrays.specs.Lists.{entry}
 use Rattle.arrays.specs.Links.{Laid, Loopless}
 use Rattle.arrays.specs.ByNode.{touches, far, ByNode}
-use Rattle.tree_growth.proofs.EndsLaws.{linksAt-of, run-mem}
-use Rattle.tree_growth.proofs.RunLaws.{run-sum}
+use Rattle.by_node.proofs.EndsLaws.{linksAt-of, run-mem}
+use Rattle.by_node.proofs.RunLaws.{run-sum}
 use Rattle.arrays.specs.Kept.{within, Kept}
 use Rattle.tree_places.proofs.WithinLaws.{within-in, within-is}
 use Rattle.tree_rows.specs.Rows.{sumOver, weightAt, firstPlace, secondPlace, tally}

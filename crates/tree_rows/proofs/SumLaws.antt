@@ -13,18 +13,18 @@ use Rattle.cuts.specs.Network.{Network}
 use Rattle.cuts.specs.Limits.{mostNodes, Light}
 use Rattle.arrays.specs.Lists.{entry}
 use Rattle.tree_places.proofs.WithinLaws.{within-in, within-behind}
-use Rattle.tree_rows.specs.Rows.{sumOver, crossing, Weighted, degreesFrom, talliesFrom, figuresLength, sumsIn, Tallied, Summed}
-use Rattle.tree_rows.specs.Making.{Summable}
+use Rattle.tree_rows.specs.Rows.{sumOver, crossing, PlaceDegrees, degreesFrom, talliesFrom, figuresLength, sumsIn, Tallied, Summed}
+use Rattle.tree_rows.specs.Making.{Summable, BesideSums}
 use Rattle.tree_rows.proofs.OverLaws.{over-none, over-suc}
 use Rattle.tree_rows.proofs.CrossLaws.{tally-most, crossing-small}
 use Rattle.tree_rows.proofs.WrapLaws.{wrap-add, wrap-sub}
-use Rattle.tree_rows.proofs.PartLaws.{Same, same-sum, degreesIn-at, talliesIn-at}
+use Rattle.tree_rows.proofs.PartLaws.{beside-back, beside-sum, degreesIn-at, talliesIn-at}
 
 -- ---- what crosses at a place, and one sum more
 
 module _ {net : Network} {place : List ℕ} (l : Light net) (u s : ℕ) where
   -- what crosses at one of the places: the difference
-  crossing-in : {f degrees : List ℕ} {d : ℕ} → Weighted net place degrees → Tallied net place u s f → (y : ℕ) → y < net .nodes → u ≤ y → y < s
+  crossing-in : {f degrees : List ℕ} {d : ℕ} → PlaceDegrees net place degrees → Tallied net place u s f → (y : ℕ) → y < net .nodes → u ≤ y → y < s
       → (d + entry f y) % 2 ^ 64 ≡ entry degrees y → d < 2 ^ 64 → d ≡ crossing net place u s y
   unfolding crossing
   crossing-in w k y c a b e m =
@@ -57,11 +57,11 @@ module _ {net : Network} {place : List ℕ} (l : Light net) (u s : ℕ) where
 
 -- ---- the sums in the figures
 
-pub summable-same : {net : Network} {place f g : List ℕ} {stop nodes u : ℕ} → Same f g → Summable net place f stop nodes u → Summable net place g stop nodes u
-summable-same {net} {place} {stop = stop} {u = u} s k = record {
+pub summable-beside : {net : Network} {place f g : List ℕ} {stop nodes u : ℕ} → BesideSums f g → Summable net place f stop nodes u → Summable net place g stop nodes u
+summable-beside {net} {place} {stop = stop} {u = u} s k = record {
   light = k .light;
-  weighted = subst (Weighted net place) (s .degrees) (k .weighted);
-  tallied = subst (Tallied net place u stop) (s .tallies) (k .tallied);
+  degrees = subst (PlaceDegrees net place) (sym (s .degrees)) (k .degrees);
+  tallied = subst (Tallied net place u stop) (sym (s .tallies)) (k .tallied);
   above = k .above;
   inside = k .inside;
   sized = k .sized;
@@ -101,7 +101,7 @@ module _ (stop nodes u : ℕ) where
         begun = let a = s .begun in omega arith;
         last = sym (ap (λ (h : List ℕ). entry h (y + 1)) p ∙ getD-set-same (sumsIn figures) (y + 1) r 0 (omega arith));
         summed = λ net place g.
-            let k = summable-same (same-sum figures (y + 1) r (omega arith)) g in
+            let k = summable-beside (beside-back (beside-sum figures (y + 1) r (omega arith))) g in
             subst (Summed net place u stop (y + 1)) (sym p) (summed-more (k .light) u stop y (s .begun) (omega arith) (s .summed net place k) (c net place k) q);
       }
 
@@ -111,7 +111,7 @@ module _ {net : Network} {place figures : List ℕ} {stop nodes u : ℕ} (k : Su
   step-in {d} a b e m =
       let i = k .inside in
       let n = k .sized in
-      crossing-in (k .light) u stop (k .weighted) (k .tallied) y (omega arith) a b
+      crossing-in (k .light) u stop (k .degrees) (k .tallied) y (omega arith) a b
       (ap (λ (x : ℕ). (d + x) % 2 ^ 64) (talliesIn-at figures y (omega arith)) ∙ e ∙ sym (degreesIn-at figures y (omega arith))) m
 
   pub step-out : stop ≤ y → y < nodes → entry figures (talliesFrom + y) ≡ crossing net place u stop y

@@ -9,8 +9,7 @@
 --   degree net pl y                the weight of the links at the place y
 --   crossing net pl from to y      the weight of the links at the place y that cross the places from, .., to - 1: at one of them the
 --                                  degree less the tally, elsewhere the tally
---   paired e f                     the handle of two links, the lower number first
---   Weighted net pl ds             ds has for each place its degree
+--   PlaceDegrees net pl ds         ds has for each place its degree
 --   sumsIn figures                 of an array with four parts by place, the first: a row's sums, one more than there are places
 --   degreesIn figures              the second, from degreesFrom on: the degree of each place
 --   singlesIn figures              the third, from singlesFrom on: the weight of the link at each place, alone
@@ -28,10 +27,10 @@ use mathlib.Core.Path.{_≡_}
 use mathlib.Core.Bool.{cond}
 use mathlib.Core.List.{List}
 use lib.ListN.{take, drop}
-use lib.Dec.{eqb, leb, ltb}
+use lib.Dec.{eqb, leb}
 use Rattle.cuts.specs.Sums.{sumTo, only}
 use Rattle.cuts.specs.Network.{Tree, Network, linkAt, linkCount}
-use Rattle.cuts.specs.Candidate.{Handle, one, two, weightOf}
+use Rattle.cuts.specs.Candidate.{one, weightOf}
 use Rattle.cuts.specs.Limits.{mostNodes}
 use Rattle.arrays.specs.Lists.{entry}
 use Rattle.arrays.specs.Kept.{within}
@@ -69,12 +68,9 @@ unfolding tally degree
 crossing net place from to y =
     cond (within from to y) (degree net place y - tally net place from to y) (tally net place from to y)
 
-abbrev pub paired : ℕ → ℕ → Handle
-paired e f = cond (ltb e f) (two e f) (two f e)
-
 -- ---- figures by place
 
-pub record Weighted (net : Network) (place degrees : List ℕ) : Type 0 where
+pub record PlaceDegrees (net : Network) (place degrees : List ℕ) : Type 0 where
   pub is : (y : ℕ) → y < net .nodes → entry degrees y ≡ degree net place y
 
 abbrev pub degreesFrom : ℕ

@@ -7,52 +7,61 @@
 // 2,048 bytes apart, processors take the next tally for the sum just stored, and wait.
 // The sums are written as ones that may wrap, since the arrays alone do not say how large they are; of every network with at most 2,048
 // links of weights below 2^32 they stay below 2^45, and none wraps.
+use by_node::LISTS;
+use by_node::STARTS;
+use by_node::far_end;
 use format::limits::MOST_LINKS;
 use format::limits::MOST_NODES;
 use std::num::wrapping_add_u64;
 use std::num::wrapping_sub_u64;
-use tree_growth::by_node::STARTS;
-use tree_growth::far_end;
 ghost use mathlib.Core.Path.{_≡_};
 ghost use mathlib.Core.List.{List};
 ghost use Prim.Native.Nat.{ℕ, suc, _≤_, _<_};
-ghost use lib.ListN.{length, replicate};
+ghost use lib.ListN.{length, set, replicate};
 ghost use Rattle.cuts.specs.Network.{Network, Tree};
 ghost use Rattle.cuts.specs.Candidate.{weightOf};
-ghost use Rattle.cuts.specs.Limits.{mostNodes};
 ghost use Rattle.arrays.specs.Lists.{entry};
 ghost use Rattle.arrays.specs.Kept.{Kept};
-ghost use Rattle.tree_rows.specs.Rows.{paired, Weighted, degreesIn, Added, Tallied, RowTallied, Row};
-ghost use Rattle.tree_rows.specs.Making.{placesIn, nodesIn, ForPlaces, LinksAddable, RunAddable};
-ghost use Rattle.tree_rows.specs.Making.{RowStartable, RowTallyable, RowSummable, RowMakeable, Behind};
-ghost use Rattle.tree_rows.specs.Making.{Searched, RowStart, SumsMade, RowHeld, Beside, BesideTallies};
-
-// The numbers that list a network's links by node.
-pub const LISTS: usize = STARTS + 2 * MOST_LINKS;
+ghost use Rattle.search_order.specs.Visits.{handleAt};
+ghost use Rattle.tree_rows.specs.Rows.{degreesIn, Added, RowTallied, Tallied};
+ghost use Rattle.tree_rows.specs.Making.{placesIn, nodesIn, PlacesWeighable, ForPlaces, LinksAddable, RunAddable};
+ghost use Rattle.tree_rows.specs.Making.{RowStartable, RowTallyable, RowSummable, RowMakeable};
+ghost use Rattle.tree_rows.specs.Making.{TreeHeld, RowStart, RowsHeld, BesideDegrees, SumsMade};
+ghost use Rattle.tree_rows.specs.Reading.{RowHeld, Behind, RowFrom, NextLight};
 
 // Where the degrees begin among the figures, behind the sums.
-pub const DEGREES: usize = MOST_NODES + 1;
+const DEGREES: usize = MOST_NODES + 1;
 
 // Where the single weights begin.
 pub const SINGLES: usize = DEGREES + MOST_NODES;
 
 // Where the tallies begin.
-pub const TALLIES: usize = SINGLES + MOST_NODES;
+const TALLIES: usize = SINGLES + MOST_NODES;
 
 // The number of figures.
 pub const FIGURES: usize = TALLIES + MOST_NODES;
 
 // What `from` has for the node at each place.
-pub fn gather(out: &mut [u64], node: &[u8], from: &[u64; MOST_NODES])
-    requires { ⌜ ForPlaces (now out) (now node) ⌝ }
-    ensures { λ _. ⌜ ((p : ℕ) → p < mostNodes
+fn gather(out: &mut [u64], nodes: usize, node: &[u8], from: &[u64; MOST_NODES])
+    requires { ⌜ ForPlaces (now out) nodes (now node) ⌝ }
+    ensures { λ _. ⌜ ((p : ℕ) → p < nodes
         → entry (now (out .exit)) p ≡ entry (now (from .entry)) (entry (now (node .entry)) p)) ⌝ }
 {
     let mut p = 0;
-    while p < MOST_NODES {
+    while p < nodes {
         out[p] = from[node[p] as usize];
         p += 1;
     }
+}
+
+// The degree of the node at each place, in its part of `figures`.
+pub fn weigh_places(figures: &mut [u64], nodes: usize, node: &[u8], degrees: &[u64; MOST_NODES])
+    requires { ⌜ PlacesWeighable (now figures) nodes (now node) ⌝ }
+    ensures { λ _. ⌜ ((p : ℕ) → p < nodes
+        → entry (degreesIn (now (figures .exit))) p ≡ entry (now (degrees .entry)) (entry (now (node .entry)) p)) ⌝ }
+    ensures { λ _. ⌜ BesideDegrees (now (figures .entry)) (now (figures .exit)) ⌝ }
+{
+    gather(&mut figures[DEGREES..SINGLES], nodes, node, degrees);
 }
 
 // Adds to the number of each place the weight of the links between it and node `x`.
@@ -66,7 +75,7 @@ fn add_links(
 )
     requires { ⌜ LinksAddable (now f) (now ends) (now weights) (now lists) (now place) x ⌝ }
     ensures { λ _. ⌜ ((net : Network) (t : Tree) (node stops links : List ℕ) (nodes : ℕ)
-        → Searched net t (now (ends .entry)) (now (weights .entry)) (now (lists .entry))
+        → TreeHeld net t (now (ends .entry)) (now (weights .entry)) (now (lists .entry))
         (now (place .entry)) node stops links nodes
         → x < nodes
         → Added net (now (place .entry)) (entry (now (place .entry)) x) (now (f .entry)) (now (f .exit))) ⌝ }
@@ -93,7 +102,7 @@ fn add_run(
 )
     requires { ⌜ RunAddable (now f) (now ends) (now lists) (nodesIn (now bytes)) to ⌝ }
     ensures { λ _. ⌜ ((net : Network) (t : Tree) (stops links : List ℕ) (nodes first : ℕ)
-        → Searched net t (now (ends .entry)) (now (weights .entry)) (now (lists .entry))
+        → TreeHeld net t (now (ends .entry)) (now (weights .entry)) (now (lists .entry))
         (placesIn (now (bytes .entry))) (nodesIn (now (bytes .entry))) stops links nodes
         → first ≤ from → from ≤ to → to ≤ nodes
         → Tallied net (placesIn (now (bytes .entry))) first from (now (f .entry))
@@ -147,7 +156,7 @@ fn tally_row(
 )
     requires { ⌜ RowTallyable (now f) (now ends) (now lists) (nodesIn (now bytes)) (now stops) nodes u ⌝ }
     ensures { λ _. ⌜ ((net : Network) (t : Tree) (links : List ℕ)
-        → Searched net t (now (ends .entry)) (now (weights .entry)) (now (lists .entry))
+        → TreeHeld net t (now (ends .entry)) (now (weights .entry)) (now (lists .entry))
         (placesIn (now (bytes .entry))) (nodesIn (now (bytes .entry))) (now (stops .entry)) links nodes
         → 0 < u → RowTallied net (placesIn (now (bytes .entry))) (now (stops .entry)) (suc u) (now (f .entry))
         → RowTallied net (placesIn (now (bytes .entry))) (now (stops .entry)) u (now (f .exit))) ⌝ }
@@ -158,11 +167,10 @@ fn tally_row(
     add_links(f, ends, weights, lists, &bytes[0], bytes[1][u]);
 }
 
-// The sums of what crosses the places from `u` up to `stop`, from u on, and the weight of the link at u, which is the sum at the stop.
-fn sum_row(figures: &mut [u64], nodes: usize, stop: usize, u: usize)
+// Makes the sums of what crosses the places from `u` up to `stop`, from u on. The sum at the stop, which is the weight of the link at u.
+fn sum_row(figures: &mut [u64], nodes: usize, stop: usize, u: usize) -> u64
     requires { ⌜ RowSummable (now figures) nodes stop u ⌝ }
-    ensures { λ _. ⌜ SumsMade (now (figures .entry)) (now (figures .exit)) nodes stop u ⌝ }
-    ensures { λ _. ⌜ BesideTallies u (now (figures .entry)) (now (figures .exit)) ⌝ }
+    ensures { λ r. ⌜ SumsMade (now (figures .entry)) (now (figures .exit)) nodes stop u r ⌝ }
 {
     let mut sum = 0;
     figures[u] = sum;
@@ -180,7 +188,15 @@ fn sum_row(figures: &mut [u64], nodes: usize, stop: usize, u: usize)
         y += 1;
         figures[y] = sum;
     }
-    figures[SINGLES + u] = figures[stop];
+    figures[stop]
+}
+
+// Keeps the weight of the link at place `u` among the single weights.
+fn put_single(singles: &mut [u64], u: usize, weight: u64)
+    requires { ⌜ u < length (now singles) ⌝ }
+    ensures { λ _. ⌜ now (singles .exit) ≡ set (now (singles .entry)) u weight ⌝ }
+{
+    singles[u] = weight;
 }
 
 // Makes the row of `u` from the row of u + 1.
@@ -196,12 +212,12 @@ pub fn make_row(
 )
     requires { ⌜ RowMakeable (now figures) (now ends) (now lists) (nodesIn (now bytes)) (now stops) nodes u ⌝ }
     ensures { λ _. ⌜ ((net : Network) (t : Tree) (links : List ℕ)
-        → Searched net t (now (ends .entry)) (now (weights .entry)) (now (lists .entry))
+        → RowsHeld net t (now (ends .entry)) (now (weights .entry)) (now (lists .entry))
         (placesIn (now (bytes .entry))) (nodesIn (now (bytes .entry))) (now (stops .entry)) links nodes
-        → Weighted net (placesIn (now (bytes .entry))) (degreesIn (now (figures .entry)))
-        → Row net t (placesIn (now (bytes .entry))) (now (stops .entry)) links (suc u) (now (figures .entry))
-        → Row net t (placesIn (now (bytes .entry))) (now (stops .entry)) links u (now (figures .exit))) ⌝ }
-    ensures { λ _. ⌜ Beside u (now (figures .entry)) (now (figures .exit)) ⌝ }
+        (suc u) (now (figures .entry))
+        → RowsHeld net t (now (ends .entry)) (now (weights .entry)) (now (lists .entry))
+        (placesIn (now (bytes .entry))) (nodesIn (now (bytes .entry))) (now (stops .entry)) links nodes
+        u (now (figures .exit))) ⌝ }
 {
     let stop = stops[u] as usize;
     tally_row(
@@ -214,7 +230,8 @@ pub fn make_row(
         stops,
         u,
     );
-    sum_row(figures, nodes, stop, u);
+    let single = sum_row(figures, nodes, stop, u);
+    put_single(&mut figures[SINGLES..TALLIES], u, single);
 }
 
 // The weight of the links at the places `u` and `v`, behind it, as a pair, from the row of u: both alone, less twice what they share, which
@@ -223,11 +240,33 @@ pub fn pair_weight(figures: &[u64; FIGURES], stops: &[u16; MOST_NODES], u: usize
     requires { ⌜ Behind (now stops) u v ⌝ }
     ensures { λ r. ⌜ ((net : Network) (t : Tree) (place node links : List ℕ)
         → RowHeld net t place node (now (stops .entry)) links u (now (figures .entry)) → v < net .nodes
-        → r ≡ weightOf net t (paired (entry links u) (entry links v))) ⌝ }
+        → r ≡ weightOf net t (handleAt links u v)) ⌝ }
 {
     let shared = wrapping_sub_u64(figures[stops[v] as usize], figures[v]);
     wrapping_sub_u64(
         wrapping_add_u64(figures[SINGLES + u], figures[SINGLES + v]),
         wrapping_add_u64(shared, shared),
     )
+}
+
+// The first place from `from` on whose link, with that at `u`, weighs no more than `limit`; `nodes` where there is none.
+pub fn next_light(
+    figures: &[u64; FIGURES],
+    nodes: usize,
+    stops: &[u16; MOST_NODES],
+    u: usize,
+    from: usize,
+    limit: u64,
+) -> usize
+    requires { ⌜ RowFrom (now stops) nodes u from ⌝ }
+    ensures { λ r. ⌜ NextLight (now (figures .entry)) nodes (now (stops .entry)) u from limit r ⌝ }
+{
+    let mut v = from;
+    while v < nodes {
+        if pair_weight(figures, stops, u, v) <= limit {
+            return v;
+        }
+        v += 1;
+    }
+    nodes
 }

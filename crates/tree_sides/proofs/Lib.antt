@@ -1,3 +1,2 @@
-pub mod SideLaws
 pub mod CountLaws
 pub mod NodeLaws

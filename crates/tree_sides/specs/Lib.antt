@@ -1,2 +1,2 @@
 pub mod Sides
-pub mod NodeRows
+pub mod NodeLayers

@@ -8,22 +8,16 @@
 --   StandsAt nodes l k p          p is a place behind the root's, and the links l have the link k there
 --   PlaceFound nodes l k r        so it is of r where k is a member of a tree of so many nodes, kept with the links l; whatever k is, r is a
 --                                 place
---   PlacesGiven nodes a           there are no more nodes than a sheet can have, and every number of a is a place
---   RunsMarked nodes a from to start end s   the array s marks those of so many nodes whose place, in a, is in exactly one of two runs of
---                                 places, from, .., to - 1 and start, .., end - 1, and no other
-use Prim.Native.Nat.{ℕ, _≤_, _<_}
+use Prim.Native.Nat.{ℕ, _<_}
 use mathlib.Core.Path.{_≡_}
-use mathlib.Core.Bool.{xor}
 use mathlib.Core.List.{List}
-use lib.ListN.{length}
-use Rattle.cuts.specs.Sums.{only}
 use Rattle.cuts.specs.Network.{Network, Tree}
 use Rattle.cuts.specs.Limits.{mostNodes}
 use Rattle.cuts.specs.Cut.{size}
 use Rattle.cuts.specs.Tree.{Member}
 use Rattle.cuts.specs.Candidate.{sideOf}
-use Rattle.arrays.specs.Lists.{entry, Within}
-use Rattle.arrays.specs.Kept.{within, LinksAt, Kept}
+use Rattle.arrays.specs.Lists.{entry}
+use Rattle.arrays.specs.Kept.{LinksAt, Kept}
 use Rattle.tree_places.specs.Places.{StopsKnown}
 use Rattle.search_order.specs.Visits.{handleAt}
 
@@ -57,7 +51,7 @@ EitherCount stops u v r =
     (net : Network) (t : Tree) (place node links : List ℕ) → Kept net t place node stops links → InTree (net .nodes) u → InTree (net .nodes) v
     → r ≡ size net (sideOf net t (handleAt links u v))
 
--- ---- marks
+-- ---- places
 
 pub record StandsAt (nodes : ℕ) (links : List ℕ) (link p : ℕ) : Type 0 where
   pub behind : 0 < p
@@ -67,12 +61,3 @@ pub record StandsAt (nodes : ℕ) (links : List ℕ) (link p : ℕ) : Type 0 whe
 pub record PlaceFound (nodes : ℕ) (links : List ℕ) (link r : ℕ) : Type 0 where
   pub place : r < mostNodes
   pub stands : (net : Network) (t : Tree) → LinksAt net t links → net .nodes ≡ nodes → Member net t link → StandsAt nodes links link r
-
-pub record PlacesGiven (nodes : ℕ) (place : List ℕ) : Type 0 where
-  pub few-nodes : nodes ≤ mostNodes
-  pub places-known : Within place mostNodes mostNodes
-
-pub record RunsMarked (nodes : ℕ) (place : List ℕ) (from to start end : ℕ) (side : List ℕ) : Type 0 where
-  pub sized : length side ≡ mostNodes
-  pub each : (x : ℕ) → x < nodes → entry side x ≡ only (xor (within from to (entry place x)) (within start end (entry place x))) 1
-  pub no-other : (x : ℕ) → nodes ≤ x → x < mostNodes → entry side x ≡ 0

@@ -1,2 +1,1 @@
-pub mod SideLaws
 pub mod WordLaws

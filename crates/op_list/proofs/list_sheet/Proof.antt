@@ -1,55 +1,36 @@
 -- `op_list::list_sheet` meets its contract: what the sheet's reading says decides first, and of a network that was read the area's room.
 -- Assumes nothing.
 use borrow.Author.Needs.{needs}
-use mathlib.Core.Path.{_≡_, sym, ap, subst}
+use mathlib.Core.Path.{sym, ap, subst}
 use mathlib.Core.List.{[]}
-use native.Mathlib.Omega.{arith}
 use Rattle.cuts.specs.Network.{Network}
 use Rattle.sheet.specs.Reading.{Reading, numberOf}
-use Rattle.sheet.specs.Sheet.{current, decode}
-use Rattle.sheet.proofs.Acceptance.{decode-accepted}
+use Rattle.sheet.specs.Sheet.{current}
 use Rattle.listing.specs.ListArea.{sidesLeft, countLeft}
 use Rattle.listing.proofs.ListAreaLaws.{sheet-refused, sheet-fitting}
-use Rattle.read_sheet.specs.SheetRead.{SheetRead}
-use Rattle.read_sheet.specs.declared.Outcome.{Outcome}
+use Rattle.read_sheet.proofs.NetworkLaws.{was-read, was-refused, sheet-held}
 use Rattle.op_list.specs.Lists.{ListLeft}
 use Rattle.op_list.proofs.list_sheet.Statement.{statement}
 use Rattle.op_list.proofs.list_sheet.Tie as tie
 
--- the places on the way, each from a later one: the entry, where the sheet was read, and where it told what was read
+-- the points on the way, each from a later one: the entry, where the sheet was read, and where it told what was read
 abbrev start : tie.After-read-sheet → tie.Start
 start c = c .before .before .before .before .before
 
-abbrev read : tie.After-c → tie.After-read-sheet
+abbrev read : tie.After-l → tie.After-read-sheet
 read c = c .before .before
 
-abbrev told : tie.After-list-network-arg4 → tie.After-c
+abbrev told : tie.After-list-network-arg4 → tie.After-l
 told c = c .before .before .before .before .before
 
 read-sheet-requires : tie.Need-read-sheet-requires
 read-sheet-requires c κs = search needs
 
-enum-known-c : tie.Need-enum-known-c
-enum-known-c c = c .match .keys1
-
--- what the reading says, given its case
-says : (c : tie.After-read-sheet) (r : Outcome) → c .read-sheet .result ≡ r → let a = start c .args in let got = c .read-sheet .last in
-    SheetRead (a .sheet .now) (got .0) (got .1 .0) (decode current (a .sheet .now)) r
-says c r e =
-    let a = start c .args in
-    let got = c .read-sheet .last in
-    subst (SheetRead (a .sheet .now) (got .0) (got .1 .0) (decode current (a .sheet .now))) e (c .read-sheet .ensures)
+enum-known-l : tie.Need-enum-known-l
+enum-known-l c = c .match .keys1
 
 list-network-requires : tie.Need-list-network-requires
-list-network-requires c κs =
-    let t = told c in
-    let r = read t in
-    let got = says r _ (t .c .given .1) in
-    record {
-      inside = omega (arith, got .trees-last);
-      accepted = decode-accepted current (start r .args .sheet .now) _ [] (sym (got .says));
-      arrays = got .arrays;
-    }
+list-network-requires c κs = let t = told c in sheet-held (read t .read-sheet .ensures) (t .l .given .1)
 
 enum-known-n : tie.Need-enum-known-n
 enum-known-n c = c .match .keys2
@@ -62,7 +43,7 @@ returns c =
     let w = c .before .before in
     let t = told (w .before) in
     let a = start (read t) .args in
-    let e = sheet-fitting current (a .sheet .now) (a .sides .now) _ [] (sym (says (read t) _ (t .c .given .1) .says)) in
+    let e = sheet-fitting current (a .sheet .now) (a .sides .now) _ [] (was-read (read t .read-sheet .ensures) (t .l .given .1)) in
     subst (λ (r : Reading Network). ListLeft current r (a .sides .now) (w .list-network .last .0) (w .list-network .last .1 .0) (w .list-network .result)) (sym e)
     (w .list-network .ensures)
 
@@ -70,7 +51,7 @@ returns-2 : tie.Need-returns-2
 returns-2 c =
     let r = c .before .before .before in
     let a = start r .args in
-    let e = sheet-refused current (a .sheet .now) (a .sides .now) _ (sym (says r _ (c .before .n .given .1) .says)) in
+    let e = sheet-refused current (a .sheet .now) (a .sides .now) _ (was-refused (r .read-sheet .ensures) (c .before .n .given .1)) in
     record { number = sym (ap numberOf e); count-is = sym (ap (countLeft current) e); sides-is = sym (ap (sidesLeft current (a .sides .now)) e) }
 
 pub list-sheet-spec : {M : Type 1} → statement M
@@ -78,7 +59,7 @@ list-sheet-spec =
     tie.close
     (tie.spec
     read-sheet-requires
-    enum-known-c
+    enum-known-l
     list-network-requires
     enum-known-n
     same-length

@@ -8,9 +8,9 @@ use Rattle.op_thickness.proofs.StepLaws.{outside, room, low-held, high-
 use Rattle.op_thickness.proofs.network_thickness.Statement.{statement}
 use Rattle.op_thickness.proofs.network_thickness.Tie as tie
 
--- the places on the way, each from a later one: the entry, where the link is one of the network's, and where each search has answered
+-- the points on the way, each from a later one: the entry, where the link is one of the network's, and where each search has answered
 abbrev start : tie.Else1 → tie.Start
-start c = c .before .before
+start c = c .before .before .before
 
 abbrev inside : tie.After-search-trees → tie.Else1
 inside c = c .before .before
@@ -22,7 +22,7 @@ abbrev high : tie.After-search-trees2 → tie.Else2
 high c = c .before .before
 
 returns : tie.Need-returns
-returns c = let s = c .before .before in outside (s .pre) (s .args .link) (s .args .wanted) (c .if1 .taken)
+returns c = let s = c .before .before .before in outside (s .pre) (s .args .link) (s .args .wanted) (c .if1 .taken)
 
 in-room : (c : tie.Else1) → start c .args .link < mostLinks
 in-room c = let s = start c in room (s .pre) (s .args .link) (s .args .wanted) (c .if1 .left)

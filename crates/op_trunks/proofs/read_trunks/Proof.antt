@@ -1,56 +1,45 @@
 -- `op_trunks::read_trunks` meets its contract: what the panel reader says of the sheet decides; the link records of an accepted sheet stand
 -- behind its header. Assumes nothing.
-use mathlib.Core.Path.{_≡_, sym, subst}
+use mathlib.Core.Path.{_≡_}
 use mathlib.Core.List.{[]}
 use native.Mathlib.Omega.{arith}
 use borrow.Author.Needs.{needs}
 use Rattle.cuts.specs.Network.{Network, linkCount}
-use Rattle.arrays.specs.Links.{firstEnds, secondEnds}
 use Rattle.sheet.specs.Bytes.{Bytes}
 use Rattle.sheet.specs.Reading.{accepted}
 use Rattle.sheet.specs.Sheet.{current, decode}
-use Rattle.read_header.specs.HeaderRead.{countsOf}
-use Rattle.arrays.proofs.LinkLaws.{linksOf-length}
 use Rattle.arrays.specs.Records.{networkAt}
-use Rattle.read_sheet.specs.SheetRead.{sheetSays}
-use Rattle.read_sheet.specs.declared.Outcome.{Outcome}
+use Rattle.read_sheet.proofs.NetworkLaws.{was-read, was-refused, sheet-held, networkAt-links}
 use Rattle.op_trunks.proofs.NumberLaws.{links-there, header-links, numbers-read, numbers-refused}
 use Rattle.op_trunks.proofs.read_trunks.Statement.{statement}
 use Rattle.op_trunks.proofs.read_trunks.Tie as tie
 
--- the places on the way, each from a later one: the entry, and where the sheet was read
+-- the points on the way, each from a later one: the entry, and where the sheet was read
 abbrev start : tie.After-read-sheet → tie.Start
 start c = c .before .before .before .before
 
-abbrev read : tie.After-c → tie.After-read-sheet
+abbrev read : tie.After-l → tie.After-read-sheet
 read c = c .before .before
 
 read-sheet-requires : tie.Need-read-sheet-requires
 read-sheet-requires c κs = search needs
 
-enum-known-c : tie.Need-enum-known-c
-enum-known-c c = search needs
+enum-known-l : tie.Need-enum-known-l
+enum-known-l c = search needs
 
--- what the reading says
-sheet-says : (c : tie.After-read-sheet) (r : Outcome) → c .read-sheet .result ≡ r → let got = c .read-sheet .last in
-    sheetSays (start c .args .sheet .now) (got .0) (got .1 .0) r ≡ decode current (start c .args .sheet .now)
-sheet-says c r e =
-    let got = c .read-sheet .last in
-    subst (λ (r : Outcome). sheetSays (start c .args .sheet .now) (got .0) (got .1 .0) r ≡ decode current (start c .args .sheet .now)) e (c .read-sheet .ensures .says)
-
--- the network that was read, and how many links it has
-module _ (c : tie.After-c) where
+-- the network that was read
+module _ (c : tie.After-l) where
   abbrev sheet : Bytes
   sheet = start (read c) .args .sheet .now
 
   abbrev net : Network
-  net = let got = read c .read-sheet .last in networkAt sheet (got .0) (got .1 .0) (countsOf (c .c .given .0 .0)) (c .c .given .0 .1 .0)
+  net = let got = read c .read-sheet .last in networkAt sheet (got .0) (got .1 .0) (c .l .given .0 .0)
 
   accepts : decode current sheet ≡ accepted net []
-  accepts = sym (sheet-says (read c) _ (c .c .given .1))
+  accepts = was-read (read c .read-sheet .ensures) (c .l .given .1)
 
-  counted : linkCount net ≡ c .c .given .0 .0 .links
-  counted = let got = read c .read-sheet .last in linksOf-length (c .c .given .0 .0 .links) (firstEnds (got .0)) (secondEnds (got .0)) (got .1 .0)
+  counted : linkCount net ≡ c .l .given .0 .0 .links
+  counted = networkAt-links (sheet-held (read c .read-sheet .ensures) (c .l .given .1))
 
 trunk-numbers-requires : tie.Need-trunk-numbers-requires
 trunk-numbers-requires c κs =
@@ -73,14 +62,14 @@ returns c =
 returns-2 : tie.Need-returns-2
 returns-2 c =
     let r = c .before .before .before in
-    numbers-refused current (start r .args .sheet .now) _ _ (sym (sheet-says r _ (c .before .n .given .1)))
+    numbers-refused current (start r .args .sheet .now) _ _ (was-refused (r .read-sheet .ensures) (c .before .n .given .1))
 
 pub read-trunks-spec : {M : Type 1} → statement M
 read-trunks-spec =
     tie.close
     (tie.spec
     read-sheet-requires
-    enum-known-c
+    enum-known-l
     trunk-numbers-requires
     enum-known-n
     returns

@@ -12,17 +12,17 @@ use lib.ListN.{length, drop, replicate}
 use Rattle.cuts.specs.Limits.{mostLinks}
 use Rattle.sheet.specs.Bytes.{Bytes, number}
 use Rattle.sheet.specs.Sheet.{treeLength}
-use Rattle.arrays.specs.Records.{recordAt, mapAt}
+use Rattle.arrays.specs.Records.{recordOf, mapAt}
 use Rattle.read_sheet.proofs.TreeLaws.{mapAt-length}
 use Rattle.packing.proofs.ShareLaws.{Loaded, Progress, going, loaded-none, record-within, still-going, sum-small, all-counted, turn-counts, turn-ends}
 use Rattle.packing.proofs.count_trees.Statement.{statement}
 use Rattle.packing.proofs.count_trees.Tie as tie
 
 abbrev Inv-loop : tie.InvT-loop
-Inv-loop loads₀ s at weights links trees sum₀ stop₀ i₀ loads sum stop i = Progress s weights at links trees loads sum (recordAt links at i) stop i
+Inv-loop loads₀ s l weights sum₀ stop₀ i₀ loads sum stop i = Progress s weights (l .records) (l .links) (l .trees) loads sum (recordOf l i) stop i
 
 abbrev μ-loop : tie.MeasureT-loop
-μ-loop loads₀ s at weights links trees sum₀ stop₀ i₀ loads sum stop i = stop - i
+μ-loop loads₀ s l weights sum₀ stop₀ i₀ loads sum stop i = stop - i
 
 -- the entry, from the loop
 abbrev start : tie.At-loop Inv-loop μ-loop → tie.Start Inv-loop μ-loop
@@ -32,22 +32,22 @@ loop-holds : tie.Need-loop-holds Inv-loop μ-loop
 loop-holds c =
     let s = c .before in
     let a = s .args in
-    let first = loaded-none (a .s .now) (a .weights .now) (a .at) (a .c .links) mostLinks refl (s .pre .trees-there .few-links) in
-    let here : a .at ≡ recordAt (a .c .links) (a .at) 0 = omega (arith, zero-mul (treeLength (a .c .links))) in
-    going (rw (s .pre .none) (subst (λ (p : ℕ). Loaded (a .s .now) (a .weights .now) (a .at) (a .c .links) (replicate mostLinks 0) 0 p 0) here first)) refl (omega arith)
+    let first = loaded-none (a .s .now) (a .weights .now) (a .l .records) (a .l .links) mostLinks refl (s .pre .trees-there .few-links) in
+    let here : a .l .records ≡ recordOf (a .l) 0 = omega (arith, zero-mul (treeLength (a .l .links))) in
+    going (rw (s .pre .none) (subst (λ (p : ℕ). Loaded (a .s .now) (a .weights .now) (a .l .records) (a .l .links) (replicate mostLinks 0) 0 p 0) here first)) refl (omega arith)
 
 -- where the next record stands
-abbrev place : tie.At-loop Inv-loop μ-loop → ℕ
-place c = let a = start c .args in recordAt (a .c .links) (a .at) (c .loop .i)
+abbrev position : tie.At-loop Inv-loop μ-loop → ℕ
+position c = let a = start c .args in recordOf (a .l) (c .loop .i)
 
 -- in the loop the trees so far count, and the next record ends within the sheet
 module _ (c : tie.In-loop Inv-loop μ-loop) where
   loaded : let a = start (c .before) .args in let l = c .before .loop in
-      Loaded (a .s .now) (a .weights .now) (a .at) (a .c .links) (l .loads) (l .sum) (place (c .before)) (l .i) × (l .stop ≡ a .c .trees)
+      Loaded (a .s .now) (a .weights .now) (a .l .records) (a .l .links) (l .loads) (l .sum) (position (c .before)) (l .i) × (l .stop ≡ a .l .trees)
   loaded = still-going (c .before .loop .inv) (c .loop-test .taken)
 
-  whole : let a = start (c .before) .args in place (c .before) + treeLength (a .c .links) ≤ length (a .s .now)
-  whole = let b = start (c .before) in record-within (loaded .0) (b .args .c .trees) (omega (arith, loaded .1, c .loop-test .taken)) (b .pre .trees-there .inside)
+  whole : let a = start (c .before) .args in position (c .before) + treeLength (a .l .links) ≤ length (a .s .now)
+  whole = let b = start (c .before) in record-within (loaded .0) (b .args .l .trees) (omega (arith, loaded .1, c .loop-test .taken)) (b .pre .trees-there .inside)
 
 record-at-requires : tie.Need-record-at-requires Inv-loop μ-loop
 record-at-requires c κs = record { few-links = start (c .before) .pre .trees-there .few-links; fits = omega (arith, whole c) }
@@ -62,10 +62,10 @@ tree-map-requires c κs =
 
 -- the map of the record
 slice : (c : tie.After-tree-map Inv-loop μ-loop) → let t = c .before .before .before in let a = start (t .before) .args in
-    c .tree-map .result .now ≡ mapAt (a .s .now) (place (t .before)) (a .c .links)
+    c .tree-map .result .now ≡ mapAt (a .s .now) (position (t .before)) (a .l .links)
 slice c =
     let a = start (c .before .before .before .before) .args in
-    c .tree-map .ensures ∙ ap (λ (p : ℕ). mapAt (a .s .now) p (a .c .links)) (c .before .before .record-at .ensures)
+    c .tree-map .ensures ∙ ap (λ (p : ℕ). mapAt (a .s .now) p (a .l .links)) (c .before .before .record-at .ensures)
 
 count-tree-requires : tie.Need-count-tree-requires Inv-loop μ-loop
 count-tree-requires c κs =
@@ -75,7 +75,7 @@ count-tree-requires c κs =
     let p = start (b .before) .pre .trees-there in
     let l = loaded b .0 in
     record {
-      mapped = omega (arith, ap (λ (map : Bytes). length map) (slice m), mapAt-length (a .s .now) (place (b .before)) (a .c .links) (whole b));
+      mapped = omega (arith, ap (λ (map : Bytes). length map) (slice m), mapAt-length (a .s .now) (position (b .before)) (a .l .links) (whole b));
       weighed = omega (arith, p .few-links);
       sized = omega (arith, l .sized, p .few-links);
       carried = l .carried;
@@ -111,9 +111,9 @@ loop-again c =
     let m = n .before .before .before in
     let four = m .before .four in
     let is = four .ensures ∙ ap (λ (p : ℕ). number 4 (drop p (a .s .now))) (m .before .before .record-at .ensures) in
-    let more : t .before .loop .i < a .c .trees = omega (arith, t .loop-test .taken, loaded t .1) in
-    let end = recordAt (a .c .links) (a .at) (t .before .loop .i + 1) in
-    let behind : end ≡ place (t .before) + treeLength (a .c .links) = omega (arith, rw (← add-one (t .before .loop .i)) at (suc-mul (t .before .loop .i) (treeLength (a .c .links)))) in
+    let more : t .before .loop .i < a .l .trees = omega (arith, t .loop-test .taken, loaded t .1) in
+    let end = recordOf (a .l) (t .before .loop .i + 1) in
+    let behind : end ≡ position (t .before) + treeLength (a .l .links) = omega (arith, rw (← add-one (t .before .loop .i)) at (suc-mul (t .before .loop .i) (treeLength (a .l .links)))) in
     let tested = n .count-tree .ensures in
     ⊎-elim
     (λ w. rw (w .1, w .2) (turn-counts (loaded t .0) (slice m) (whole t) is (tested .counts) (tested .added) (n .count-tree .kept .0) more end (w .0 .taken) (omega (arith, four .ok)) behind (loaded t .1)))

@@ -11,7 +11,7 @@ use Rattle.print_trunks.specs.Output.{linkLine}
 use Rattle.print_trunks.proofs.link_line.Statement.{statement}
 use Rattle.print_trunks.proofs.link_line.Tie as tie
 
--- the places on the way, each from a later one: the entry, and where the link's number is written
+-- the points on the way, each from a later one: the entry, and where the link's number is written
 abbrev start : tie.After-put-decimal → tie.Start
 start c = c .before .before .before
 

@@ -8,7 +8,7 @@ use borrow.Author.Needs.{needs}
 use lib.ListN.{length, drop}
 use Rattle.cuts.specs.Network.{Link, Network}
 use Rattle.arrays.specs.Links.{firstEnds, secondEnds, EndsKnown, Held, linksOf, LinkArrays}
-use Rattle.tree_growth.proofs.RunLaws.{held-ending}
+use Rattle.by_node.proofs.RunLaws.{held-ending}
 use Rattle.sheet.specs.Reading.{records}
 use Rattle.sheet.specs.Sheet.{current, headerLength, nextLink, treeLength, treeRecord, network}
 use Rattle.format.specs.Steps.{stepSays, Inside, EndsAt}
@@ -20,7 +20,7 @@ use Rattle.read_sheet.proofs.SheetLaws.{held-links, refused-by-links, r
 use Rattle.read_sheet.proofs.read_body.Statement.{statement}
 use Rattle.read_sheet.proofs.read_body.Tie as tie
 
--- the places on the way, each from a later one: the entry, where the links are read, where they were, and where the trees are read
+-- the points on the way, each from a later one: the entry, where the links are read, where they were, and where the trees are read
 abbrev start : tie.After-read-links → tie.Start
 start c = c .before .before .before .before
 

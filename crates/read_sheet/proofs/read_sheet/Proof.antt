@@ -11,7 +11,7 @@ use Rattle.read_sheet.proofs.SheetLaws.{header-whole, refused-by-header
 use Rattle.read_sheet.proofs.read_sheet.Statement.{statement}
 use Rattle.read_sheet.proofs.read_sheet.Tie as tie
 
--- the places on the way, each from a later one: the entry, where the header is read, where it was, and where the rest is read
+-- the points on the way, each from a later one: the entry, where the header is read, where it was, and where the rest is read
 abbrev start : tie.After-read-header → tie.Start
 start c = c .before .before
 

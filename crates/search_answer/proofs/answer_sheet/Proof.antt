@@ -4,8 +4,7 @@ use mathlib.Core.Path.{sym, _∙_}
 use borrow.Author.Needs.{needs}
 use Rattle.sheet.specs.Sheet.{current}
 use Rattle.arrays.specs.Records.{networkAt}
-use Rattle.read_header.specs.HeaderRead.{countsOf}
-use Rattle.search_sheet.proofs.NetworkLaws.{networkAt-links-most, networkAt-trees-most, networkAt-laid}
+use Rattle.read_sheet.proofs.NetworkLaws.{networkAt-laid}
 use Rattle.search_answer.proofs.AnswerLaws.{says-best, floor-is, verdict-is}
 use Rattle.search_answer.proofs.answer_sheet.Statement.{statement}
 use Rattle.search_answer.proofs.answer_sheet.Tie as tie
@@ -15,14 +14,8 @@ search-trees-requires c κs = search needs
 
 floor-of-requires : tie.Need-floor-of-requires
 floor-of-requires c κs =
-    let s = c .before .before in
-    let a = s .args in
-    let h = s .pre in
-    record {
-      inside = h .inside;
-      few-links = networkAt-links-most (a .s .now) (a .ends .now) (a .weights .now) (countsOf (a .c)) (a .at) (h .accepted);
-      few-trees = networkAt-trees-most (a .s .now) (a .ends .now) (a .weights .now) (countsOf (a .c)) (a .at) (h .accepted);
-    }
+    let h = c .before .before .pre in
+    record { inside = h .inside; few-links = h .few-links; few-trees = h .few-trees }
 
 verdict-requires : tie.Need-verdict-requires
 verdict-requires c κs = search needs
@@ -33,13 +26,12 @@ returns c =
     let s = f .before .before .before in
     let a = s .args in
     let found = f .before .search-trees .ensures in
-    let net = networkAt (a .s .now) (a .ends .now) (a .weights .now) (countsOf (a .c)) (a .at) in
-    let laid = networkAt-laid (a .s .now) (a .ends .now) (a .weights .now) (countsOf (a .c)) (a .at) (s .pre .accepted .sound) in
-    let floor = f .floor-of .ensures net (laid .weighed) in
+    let net = networkAt (a .s .now) (a .ends .now) (a .weights .now) (a .l) in
+    let floor = f .floor-of .ensures net (networkAt-laid (s .pre) .weighed) in
     record {
-      best = says-best (current .rules) (a .s .now) (a .ends .now) (a .weights .now) (countsOf (a .c)) (a .at) found;
-      floor = sym (floor-is (current .rules) (a .s .now) (a .ends .now) (a .weights .now) (countsOf (a .c)) (a .at) found floor);
-      verdict = c .verdict .ensures ∙ sym (verdict-is (current .rules) (a .s .now) (a .ends .now) (a .weights .now) (countsOf (a .c)) (a .at) found floor);
+      best = says-best (current .rules) (a .s .now) (a .ends .now) (a .weights .now) (a .l) found;
+      floor = sym (floor-is (current .rules) (a .s .now) (a .ends .now) (a .weights .now) (a .l) found floor);
+      verdict = c .verdict .ensures ∙ sym (verdict-is (current .rules) (a .s .now) (a .ends .now) (a .weights .now) (a .l) found floor);
     }
 
 pub answer-sheet-spec : {M : Type 1} → statement M

@@ -1,7 +1,6 @@
 -- `search_sheet::search_trees` meets its contract: the links are listed by node, and then the trees are searched. Assumes nothing.
 use borrow.Author.Needs.{needs}
-use Rattle.read_header.specs.HeaderRead.{countsOf}
-use Rattle.search_sheet.proofs.NetworkLaws.{sheet-indexable, sheet-listed}
+use Rattle.sheet_trees.proofs.TreeLaws.{sheet-indexable, sheet-listed}
 use Rattle.search_sheet.proofs.search_trees.Statement.{statement}
 use Rattle.search_sheet.proofs.search_trees.Tie as tie
 
@@ -10,18 +9,10 @@ abbrev start : tie.After-index-links-arg → tie.Start
 start c = c .before .before .before .before
 
 index-links-requires : tie.Need-index-links-requires
-index-links-requires c κs =
-    let s = start c in
-    let a = s .args in
-    sheet-indexable (a .s .now) (a .ends .now) (a .weights .now) (countsOf (a .c)) (a .at) (s .pre)
+index-links-requires c κs = sheet-indexable (start c .pre)
 
 search-listed-requires : tie.Need-search-listed-requires
-search-listed-requires c κs =
-    let l = c .before .before in
-    let s = start (l .before) in
-    let a = s .args in
-    sheet-listed (a .s .now) (a .ends .now) (a .weights .now) (countsOf (a .c)) (a .at) (s .pre)
-    (l .index-links .last .0) (l .index-links .last .1 .0) (l .index-links .ensures)
+search-listed-requires c κs = let l = c .before .before in sheet-listed (start (l .before) .pre) (l .index-links .ensures)
 
 returns : tie.Need-returns
 returns c = search needs

@@ -1,7 +1,7 @@
 -- `search_ties::mark_ties` meets its contract: the figures begin with the degrees by place. Assumes nothing.
 use native.Mathlib.Omega.{arith}
 use borrow.Author.Needs.{needs}
-use Rattle.tree_rows.proofs.DegreeLaws.{degrees-weighted}
+use Rattle.tree_rows.proofs.DegreeLaws.{place-degrees}
 use Rattle.search_ties.proofs.mark_ties.Statement.{statement}
 use Rattle.search_ties.proofs.mark_ties.Tie as tie
 
@@ -23,9 +23,8 @@ returns c =
     let s = w .before .before .before .before in
     λ net t h d.
     let n = h .indexed .laid .held .sized in
-    let few = s .pre .few-nodes in
     c .mark-rows .ensures net t h
-    (degrees-weighted (h .ranked .kept) (h .indexed .loopless) (s .args .degrees .now) _ d (omega arith) (w .weigh-places .ensures .0))
+    (place-degrees (h .ranked .kept) (h .indexed .loopless) (s .args .degrees .now) _ d (λ y b. w .weigh-places .ensures .0 y (omega arith)))
 
 pub mark-ties-spec : {M : Type 1} → statement M
 mark-ties-spec =

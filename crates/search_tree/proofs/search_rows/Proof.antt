@@ -1,15 +1,12 @@
 -- `search_tree::search_rows` meets its contract. The loop's invariant: the row of u stands in the figures, and what is found is the first of
 -- what was reached in the rows from u on.
 -- Assumes nothing.
-use Prim.Native.Nat.{ℕ, suc, _-_, _≤_, _<_}
-use mathlib.Core.Path.{_≡_, refl, sym, subst, _∙_}
+use Prim.Native.Nat.{_-_, _≤_, _<_}
 use native.Mathlib.Omega.{arith}
-use native.Mathlib.Numerals.{add-one}
 use Rattle.cuts.specs.Network.{Network, Tree}
 use Rattle.cuts.specs.Candidate.{Candidate, fewerNodes, ahead}
-use Rattle.tree_rows.specs.Rows.{Weighted, degreesIn, Row}
-use Rattle.tree_rows.specs.Making.{placesIn, nodesIn, Searched, RowHeld}
-use Rattle.tree_rows.proofs.RowLaws.{row-end}
+use Rattle.tree_rows.specs.Making.{placesIn, nodesIn, RowsHeld}
+use Rattle.tree_rows.proofs.LoopLaws.{rows-turn}
 use Rattle.search_order.specs.Choice.{Says}
 use Rattle.search_order.specs.Visits.{Reached}
 use Rattle.cuts.proofs.Demands.{ahead-weighing}
@@ -19,15 +16,15 @@ use Rattle.search_tree.proofs.search_rows.Tie as tie
 
 abbrev Inv-loop : tie.InvT-loop
 Inv-loop figures₀ nodes ends weights lists tree stops links bytes best₀ u₀ figures best u =
-    (u ≤ nodes) × (degreesIn figures ≡ degreesIn figures₀)
-    × ((net : Network) (t : Tree) (c : Candidate) → Searched net t ends weights lists (placesIn bytes) (nodesIn bytes) stops links nodes
-    → Weighted net (placesIn bytes) (degreesIn figures₀) → Says best₀ c
-    → Row net t (placesIn bytes) stops links u figures × Reached (ahead fewerNodes) c net tree t links u nodes best)
+    (u ≤ nodes) × ((net : Network) (t : Tree) (c : Candidate)
+    → RowsHeld net t ends weights lists (placesIn bytes) (nodesIn bytes) stops links nodes nodes figures₀ → Says best₀ c
+    → RowsHeld net t ends weights lists (placesIn bytes) (nodesIn bytes) stops links nodes u figures
+    × Reached (ahead fewerNodes) c net tree t links u nodes best)
 
 abbrev μ-loop : tie.MeasureT-loop
 μ-loop figures₀ nodes ends weights lists tree stops links bytes best₀ u₀ figures best u = u
 
--- the places on the way, each from a later one: the entry, and the turn
+-- the points on the way, each from a later one: the entry, and the turn
 abbrev start : tie.At-loop Inv-loop μ-loop → tie.Start Inv-loop μ-loop
 start c = c .before .before .before .before .before
 
@@ -41,10 +38,9 @@ place-in c = let i = c .before .loop .inv .0 in let t = c .loop-test .taken in (
 loop-holds : tie.Need-loop-holds Inv-loop μ-loop
 loop-holds c = (
   omega arith,
-  refl,
-  λ net t x h w says.
-      let n = h .indexed .laid .held .sized in
-      (row-end net t _ _ _ _ _ (omega arith), reached-start (ahead-weighing fewerNodes .order) _ _ (omega arith) says),
+  λ net t x h says.
+      let n = h .tree-held .indexed .laid .held .sized in
+      (h, reached-start (ahead-weighing fewerNodes .order) _ _ (omega arith) says),
 )
 
 sub-u : tie.Need-sub-u Inv-loop μ-loop
@@ -72,27 +68,19 @@ loop-again c =
     let t = turn m in
     let l = t .before .loop in
     let a = start (t .before) .args in
-    let u = l .u - 1 in
-    let b = place-in t in
-    let made = m .make-row .ensures in (
+    let b = place-in t in (
       omega (arith, b),
-      made .1 .degrees ∙ l .inv .1,
-      λ net x d h w says.
-          let q : l .u ≡ suc u = omega (arith, b) in
-          let o = l .inv .2 net x d h w says in
-          let before = subst (λ (i : ℕ). Row net x (a .p .place) (a .p .stops) (a .p .links) i (l .figures)) q (o .0) in
-          let reached = subst (λ (i : ℕ). Reached (ahead fewerNodes) d net (a .tree) x (a .p .links) i (a .nodes) (l .best)) (q ∙ sym (add-one u)) (o .1) in
-          let row = made .0 net x (a .p .links) h (subst (Weighted net (a .p .place)) (sym (l .inv .1)) w) before in
-          let held : RowHeld net x (a .p .place) (a .p .node) (a .p .stops) (a .p .links) u (m .make-row .last .0) = record { light = h .indexed .light; kept = h .kept; row = row; some = b .0 } in
-          (row, c .search-row .ensures net x d (a .p .place) (a .p .node) held (h .indexed .laid .held .sized) reached),
+      λ net x d h says.
+          rows-turn (λ i. Reached (ahead fewerNodes) d net (a .tree) x (a .p .links) i (a .nodes) (l .best)) (b .0) (omega (arith, b))
+          (m .make-row .ensures net x (a .p .links)) (c .search-row .ensures net x d (a .p .place) (a .p .node)) (l .inv .1 net x d h says),
     )
 
 returns : tie.Need-returns Inv-loop μ-loop
 returns c =
-    λ net t x h w p says.
+    λ net t x h p says.
     let l = c .before .loop in
-    let n = h .indexed .laid .held .sized in
-    reached-end (ahead-weighing fewerNodes .order) (h .kept .links-at) (l .u) _ (c .loop-test .left) (omega arith) p (l .inv .2 net t x h w says .1)
+    let n = h .tree-held .indexed .laid .held .sized in
+    reached-end (ahead-weighing fewerNodes .order) (h .tree-held .kept .links-at) (l .u) _ (c .loop-test .left) (omega arith) p (l .inv .1 net t x h says .1)
 
 pub search-rows-spec : {M : Type 1} → statement M
 search-rows-spec =

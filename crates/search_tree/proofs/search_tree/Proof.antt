@@ -1,7 +1,8 @@
 -- `search_tree::search_tree` meets its contract: the figures begin with the degrees by place. Assumes nothing.
 use native.Mathlib.Omega.{arith}
 use borrow.Author.Needs.{needs}
-use Rattle.tree_rows.proofs.DegreeLaws.{degrees-weighted}
+use Rattle.tree_rows.proofs.DegreeLaws.{place-degrees}
+use Rattle.tree_rows.proofs.LoopLaws.{rows-start}
 use Rattle.search_tree.proofs.search_tree.Statement.{statement}
 use Rattle.search_tree.proofs.search_tree.Tie as tie
 
@@ -23,8 +24,9 @@ returns c =
     let s = w .before .before .before .before in
     λ net t x h d p says.
     let n = h .indexed .laid .held .sized in
-    c .search-rows .ensures net t x h
-    (degrees-weighted (h .kept) (h .indexed .loopless) (s .args .degrees .now) _ d (omega (arith, s .pre .few-nodes)) (w .weigh-places .ensures .0)) p says
+    c .search-rows .ensures net t x
+    (rows-start h (place-degrees (h .kept) (h .indexed .loopless) (s .args .degrees .now) _ d (λ y b. w .weigh-places .ensures .0 y (omega arith))))
+    p says
 
 pub search-tree-spec : {M : Type 1} → statement M
 search-tree-spec =

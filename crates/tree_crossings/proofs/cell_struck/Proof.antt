@@ -1,7 +1,8 @@
--- `tree_crossings::cell_struck` meets its contract: a cell of one link has the other place's rows both as the first, which cancel.
+-- `tree_crossings::cell_struck` meets its contract: a cell of one link has both layers of a second as the first layer, which cancel.
 -- Assumes nothing.
 use Prim.Native.Nat.{_/_, _%_}
-use mathlib.Core.Path.{_∙_}
+use mathlib.Core.Path.{_≡_, _∙_}
+use mathlib.Core.Logic.{⊎-elim}
 use native.Mathlib.Omega.{arith}
 use borrow.Author.Needs.{needs}
 use borrow.Author.Tests.{eq-eqb, ne-eqb}
@@ -26,24 +27,6 @@ shared-slice-read-to c = let a = c .before .before .before .before .args in omeg
 cast-to : tie.Need-cast-to
 cast-to c = let a = c .before .before .before .before .args in omega (arith, c .shared-slice-known4 .given (entry (a .at .now) (a .q / mostNodes)))
 
-crosses-few-requires : tie.Need-crosses-few-requires
-crosses-few-requires c κs =
-    let s = c .before .before .before .before .before in
-    let a = s .args in
-    let small = c .before .before .shared-slice-known3 .given (a .q / mostNodes) in
-    record {
-      first = omega (arith, s .pre .held .stops-known (entry (a .at .now) (a .q / mostNodes)) (omega arith));
-      second = omega arith;
-      third = omega arith;
-      fourth = omega arith;
-    }
-
-returns : tie.Need-returns
-unfolding sideCrossings
-returns c =
-    let a = c .before .before .before .before .before .before .args in
-    c .crosses-few .ensures ∙ rw (eq-eqb (a .q / mostNodes) (a .q % mostNodes) (c .before .if1 .taken))
-
 shared-slice-read-v : tie.Need-shared-slice-read-v
 shared-slice-read-v c = search needs
 
@@ -63,24 +46,32 @@ cast-end c =
     let a = c .before .before .before .before .before .before .before .args in
     omega (arith, c .shared-slice-known6 .given (entry (a .at .now) (a .q % mostNodes)))
 
-crosses-few-requires-2 : tie.Need-crosses-few-requires-2
-crosses-few-requires-2 c κs =
-    let s = c .before .before .before .before .before .before .before in
+crosses-few-requires : tie.Need-crosses-few-requires
+crosses-few-requires c κs =
+    let s = c .before .before .before .before .before in
     let a = s .args in
-    let small = c .before .before .before .before .shared-slice-known3 .given (a .q / mostNodes) in
-    let low = c .before .shared-slice-known5 .given (a .q % mostNodes) in
-    record {
-      first = omega (arith, s .pre .held .stops-known (entry (a .at .now) (a .q / mostNodes)) (omega arith));
-      second = omega arith;
-      third = omega (arith, s .pre .held .stops-known (entry (a .at .now) (a .q % mostNodes)) (omega arith));
-      fourth = omega arith;
-    }
+    let known = s .pre .held .stops-known in
+    let small = c .before .before .shared-slice-known3 .given (a .q / mostNodes) in
+    let top = known (entry (a .at .now) (a .q / mostNodes)) (omega arith) in
+    ⊎-elim
+    (λ w. let low = w .1 .given (a .q % mostNodes) in
+    let v : c .if1 .v ≡ entry (a .at .now) (a .q % mostNodes) = w .3 in
+    let end : c .if1 .end ≡ entry (a .stops .now) (entry (a .at .now) (a .q % mostNodes)) = w .4 in
+    let high = known (entry (a .at .now) (a .q % mostNodes)) (omega arith) in
+    record { first = omega arith; second = omega arith; third = omega arith; fourth = omega arith })
+    (λ w. record { first = omega arith; second = omega arith; third = omega (arith, w .2); fourth = omega (arith, w .1) })
+    (c .if1 .came)
 
-returns-2 : tie.Need-returns-2
+returns : tie.Need-returns
 unfolding sideCrossings
-returns-2 c =
-    let a = c .before .before .before .before .before .before .before .before .args in
-    c .crosses-few2 .ensures ∙ rw (ne-eqb (a .q / mostNodes) (a .q % mostNodes) (c .before .before .before .if1 .left))
+returns c =
+    let j = c .before in
+    let a = j .before .before .before .before .before .args in
+    c .crosses-few .ensures
+    ∙ ⊎-elim
+    (λ w. rw (w .3, w .4, ne-eqb (a .q / mostNodes) (a .q % mostNodes) (w .0 .taken)))
+    (λ w. rw (w .1, w .2, eq-eqb (a .q / mostNodes) (a .q % mostNodes) (w .0 .left)))
+    (j .if1 .came)
 
 pub cell-struck-spec : {M : Type 1} → statement M
 cell-struck-spec =
@@ -91,12 +82,10 @@ cell-struck-spec =
     mul-to
     shared-slice-read-to
     cast-to
-    crosses-few-requires
-    returns
     shared-slice-read-v
     cast-v
     mul-end
     shared-slice-read-end
     cast-end
-    crosses-few-requires-2
-    returns-2)
+    crosses-few-requires
+    returns)

@@ -12,22 +12,23 @@ use Rattle.arrays.specs.Lists.{entry}
 use Rattle.arrays.specs.Links.{Ending}
 use Rattle.cuts.specs.Limits.{mostNodes}
 use Rattle.bit_table.specs.Bits.{bitOf}
-use Rattle.place_rows.specs.Rows.{rowsLength}
-use Rattle.tree_crossings.specs.Rows.{EndsFlipped}
-use Rattle.tree_crossings.proofs.RowLaws.{flipped-none, flipped-more}
+use Rattle.place_layers.specs.Layers.{layersLength}
+use Rattle.tree_crossings.specs.Layers.{EndsFlipped}
+use Rattle.place_layers.proofs.LayerLaws.{clear-length}
+use Rattle.tree_crossings.proofs.LayerLaws.{flipped-none, flipped-more}
 use Rattle.tree_crossings.proofs.flip_ends.Statement.{statement}
 use Rattle.tree_crossings.proofs.flip_ends.Tie as tie
 
 abbrev Inv-loop : tie.InvT-loop
-Inv-loop rows₀ nodes firsts seconds members count place r₀ rows r =
-    (length rows ≡ rowsLength) × (r ≤ count) × EndsFlipped firsts seconds members r place rows
+Inv-loop layers₀ nodes firsts seconds members count place r₀ layers r =
+    (length layers ≡ layersLength) × (r ≤ count) × EndsFlipped firsts seconds members r place layers
 
 abbrev μ-loop : tie.MeasureT-loop
-μ-loop rows₀ nodes firsts seconds members count place r₀ rows r = count - r
+μ-loop layers₀ nodes firsts seconds members count place r₀ layers r = count - r
 
 -- where the function begins, and where a turn of the loop does
 abbrev start : tie.At-loop Inv-loop μ-loop → tie.Start Inv-loop μ-loop
-start c = c .before .before .before .before .before .before .before .before .before .before
+start c = c .before .before .before .before .before .before
 
 abbrev turn : tie.After-place-of Inv-loop μ-loop → tie.At-loop Inv-loop μ-loop
 turn c = c .before .before .before
@@ -36,18 +37,14 @@ ending : (c : tie.At-loop Inv-loop μ-loop) → c .loop .r < start c .args .coun
     → Ending (start c .args .firsts .now) (start c .args .seconds .now) (start c .args .nodes) (entry (start c .args .members .now) (c .loop .r))
 ending c b = start c .pre .chosen .known (c .loop .r) b
 
-clear-bits-requires : tie.Need-clear-bits-requires Inv-loop μ-loop
-clear-bits-requires c κs = tt
-
 loop-holds : tie.Need-loop-holds Inv-loop μ-loop
 loop-holds c =
-    let r = c .before .before .clear-bits in
-    let a = c .before .before .before .before .before .before .before .before .before .args in
-    let p = c .before .before .before .before .before .before .before .before .before .pre in (
-      omega (arith, r .kept .0, p .rows-room),
+    let s = c .before .before .before .before .before in
+    let a = s .args in (
+      clear-length (s .pre .clear),
       omega arith,
-      subst (EndsFlipped (a .firsts .now) (a .seconds .now) (a .members .now) 0 (a .place .now)) (sym (r .ensures))
-          (flipped-none (a .firsts .now) (a .seconds .now) (a .members .now) (a .place .now) (length (a .rows .now))),
+      subst (EndsFlipped (a .firsts .now) (a .seconds .now) (a .members .now) 0 (a .place .now)) (sym (s .pre .clear))
+          (flipped-none (a .firsts .now) (a .seconds .now) (a .members .now) (a .place .now) layersLength),
     )
 
 mul-link : tie.Need-mul-link Inv-loop μ-loop
@@ -130,20 +127,20 @@ loop-again c =
     let b = p .before .before .before .loop-test .taken in (
       omega (arith, g .flip-bit2 .kept .0, f .flip-bit .kept .0, l .inv .0),
       omega arith,
-      flipped-more (a .firsts .now) (a .seconds .now) (a .members .now) (a .place .now) (l .r) (l .rows) once twice (omega arith) (l .inv .2)
-          (subst (Flipped (l .rows) once) (p .before .place-of .ensures .is) (f .flip-bit .ensures))
+      flipped-more (a .firsts .now) (a .seconds .now) (a .members .now) (a .place .now) (l .r) (l .layers) once twice (omega arith) (l .inv .2)
+          (subst (Flipped (l .layers) once) (p .before .place-of .ensures .is) (f .flip-bit .ensures))
           (subst (Flipped once twice) (p .place-of2 .ensures .is) (g .flip-bit2 .ensures)),
     )
 
 same-length : tie.Need-same-length Inv-loop μ-loop
-same-length c = omega (arith, c .before .loop .inv .0, start (c .before) .pre .rows-room)
+same-length c = omega (arith, c .before .loop .inv .0, clear-length (start (c .before) .pre .clear))
 
 returns : tie.Need-returns Inv-loop μ-loop
 returns c =
     let l = c .before .loop in
     let a = start (c .before) .args in
     let e : l .r ≡ a .count = omega (arith, l .inv .1, c .loop-test .left) in
-    subst (λ (n : ℕ). EndsFlipped (a .firsts .now) (a .seconds .now) (a .members .now) n (a .place .now) (l .rows)) e (l .inv .2)
+    subst (λ (n : ℕ). EndsFlipped (a .firsts .now) (a .seconds .now) (a .members .now) n (a .place .now) (l .layers)) e (l .inv .2)
 
 pub flip-ends-spec : {M : Type 1} → statement M
 flip-ends-spec =
@@ -151,7 +148,6 @@ flip-ends-spec =
     (tie.spec
     Inv-loop
     μ-loop
-    clear-bits-requires
     loop-holds
     mul-link
     shared-slice-read-link

@@ -17,19 +17,19 @@ use Rattle.tree_crossings.proofs.strike.Statement.{statement}
 use Rattle.tree_crossings.proofs.strike.Tie as tie
 
 abbrev Inv-loop : tie.InvT-loop
-Inv-loop table₀ rows nodes stops at end q₀ table q =
+Inv-loop table₀ layers nodes stops at end q₀ table q =
     (length table ≡ tableLength) × (q ≤ end) × (q < end → bitOf table q ≡ true)
-    × StruckTo (λ k. leb (cellCrossings rows stops at k) 2) table₀ q table
+    × StruckTo (λ k. leb (cellCrossings layers stops at k) 2) table₀ q table
 
 abbrev μ-loop : tie.MeasureT-loop
-μ-loop table₀ rows nodes stops at end q₀ table q = end - q
+μ-loop table₀ layers nodes stops at end q₀ table q = end - q
 
 -- where the function begins, and whether the side of the cell at a bit crosses at most two members
 abbrev start : tie.At-loop Inv-loop μ-loop → tie.Start Inv-loop μ-loop
 start c = c .before .before .before .before .before .before
 
 abbrev light : tie.Start Inv-loop μ-loop → ℕ → Bool
-light c k = leb (cellCrossings (c .args .rows .now) (c .args .stops .now) (c .args .at .now) k) 2
+light c k = leb (cellCrossings (c .args .layers .now) (c .args .stops .now) (c .args .at .now) k) 2
 
 -- the table keeps its length
 joined : (c : tie.Joined1 Inv-loop μ-loop) → length (c .if1 .table) ≡ tableLength

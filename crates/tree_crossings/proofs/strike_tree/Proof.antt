@@ -1,4 +1,4 @@
--- `tree_crossings::strike_tree` meets its contract: the rows are those of the members that the map lists. Assumes nothing.
+-- `tree_crossings::strike_tree` meets its contract: the layers are those of the members that the map lists. Assumes nothing.
 use Prim.Native.Nat.{ℕ, _≤_, _<_}
 use mathlib.Core.Path.{_≡_, refl, sym, subst, _∙_}
 use native.Mathlib.Omega.{arith}
@@ -11,15 +11,15 @@ use Rattle.tree_crossings.proofs.CrossLaws.{tabled-struck}
 use Rattle.tree_crossings.proofs.strike_tree.Statement.{statement}
 use Rattle.tree_crossings.proofs.strike_tree.Tie as tie
 
--- where the function begins, from where the members are listed; and where they are, from where the rows are to be marked
+-- where the function begins, from where the members are listed; and where they are, from where the layers are to be marked
 abbrev start : tie.After-list-members → tie.Start
 start c = c .before .before .before
 
 abbrev listed-before : tie.After-place2 → tie.After-list-members
 listed-before c = c .before .before .before .before .before .before .before .before .before
 
--- where the rows are marked, from where the cells are to be struck out, and where the function begins
-abbrev marked : tie.After-at2 → tie.After-mark-rows
+-- where the layers are marked, from where the cells are to be struck out, and where the function begins
+abbrev marked : tie.After-at2 → tie.After-mark-layers
 marked c = c .before .before .before .before .before .before .before
 
 abbrev begun : tie.After-at2 → tie.Start
@@ -48,23 +48,23 @@ slice-aggregate-list-members c = search needs
 list-members-requires : tie.Need-list-members-requires
 list-members-requires c κs = search needs
 
-slice-aggregate-mark-rows : tie.Need-slice-aggregate-mark-rows
-slice-aggregate-mark-rows c = search needs
+slice-aggregate-mark-layers : tie.Need-slice-aggregate-mark-layers
+slice-aggregate-mark-layers c = search needs
 
-index-1-mark-rows : tie.Need-index-1-mark-rows
-index-1-mark-rows c = search needs
+index-1-mark-layers : tie.Need-index-1-mark-layers
+index-1-mark-layers c = search needs
 
-index-1-mark-rows-2 : tie.Need-index-1-mark-rows-2
-index-1-mark-rows-2 c = search needs
+index-1-mark-layers-2 : tie.Need-index-1-mark-layers-2
+index-1-mark-layers-2 c = search needs
 
-slice-aggregate-mark-rows-2 : tie.Need-slice-aggregate-mark-rows-2
-slice-aggregate-mark-rows-2 c = search needs
+slice-aggregate-mark-layers-2 : tie.Need-slice-aggregate-mark-layers-2
+slice-aggregate-mark-layers-2 c = search needs
 
-slice-aggregate-mark-rows-3 : tie.Need-slice-aggregate-mark-rows-3
-slice-aggregate-mark-rows-3 c = search needs
+slice-aggregate-mark-layers-3 : tie.Need-slice-aggregate-mark-layers-3
+slice-aggregate-mark-layers-3 c = search needs
 
-mark-rows-requires : tie.Need-mark-rows-requires
-mark-rows-requires c κs =
+mark-layers-requires : tie.Need-mark-layers-requires
+mark-layers-requires c κs =
     let m = listed-before c in
     let l = m .list-members in
     let s = start m in
@@ -72,7 +72,7 @@ mark-rows-requires c κs =
     let few = members-few m in
     let there : l .result ≤ length (l .last .0) = omega (arith, few, l .kept .0) in
     record {
-      rows-room = refl;
+      clear = refl;
       chosen = record {
         few-nodes = k .few-nodes;
         there = there;
@@ -106,7 +106,6 @@ returns c =
     let l = m .list-members in
     let s = start m in
     let a = s .args in
-    let k = s .pre .counted .links-known in
     λ net t t′ p h n e ranked tabled.
     tabled-struck ranked (record {
       firsts = _;
@@ -115,12 +114,12 @@ returns c =
       members = l .last .0;
       count = l .result;
       held = h;
-      ends-parted = w .mark-rows .ensures;
+      ends-parted = w .mark-layers .ensures;
       few = members-few m;
       there = omega (arith, members-few m, l .kept .0);
       listed = l .ensures .listed ∙ memberLinks-map net t′ (a .map .now) (a .links) n e;
-    }) (omega (arith, h .sized, k .few-nodes)) p (a .table .now) (c .strike .last .0) tabled
-    (subst (λ (x : ℕ). Struck x (w .mark-rows .last .0) (a .r .stops) (a .r .at) (a .table .now) (c .strike .last .0)) (sym (h .sized))
+    }) p (a .table .now) (c .strike .last .0) tabled
+    (subst (λ (x : ℕ). Struck x (w .mark-layers .last .0) (a .r .stops) (a .r .at) (a .table .now) (c .strike .last .0)) (sym (h .sized))
     (c .strike .ensures))
 
 pub strike-tree-spec : {M : Type 1} → statement M
@@ -129,12 +128,12 @@ strike-tree-spec =
     (tie.spec
     slice-aggregate-list-members
     list-members-requires
-    slice-aggregate-mark-rows
-    index-1-mark-rows
-    index-1-mark-rows-2
-    slice-aggregate-mark-rows-2
-    slice-aggregate-mark-rows-3
-    mark-rows-requires
+    slice-aggregate-mark-layers
+    index-1-mark-layers
+    index-1-mark-layers-2
+    slice-aggregate-mark-layers-2
+    slice-aggregate-mark-layers-3
+    mark-layers-requires
     slice-aggregate-strike
     slice-aggregate-strike-2
     strike-requires

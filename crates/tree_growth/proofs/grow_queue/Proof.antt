@@ -14,7 +14,7 @@ use Rattle.arrays.specs.Lists.{entry}
 use Rattle.arrays.proofs.GrowthLaws.{growing-start}
 use Rattle.arrays.specs.Links.{Ending}
 use Rattle.arrays.specs.ByNode.{ByNode, starts, runs}
-use Rattle.tree_growth.proofs.EndsLaws.{run-known, far-in}
+use Rattle.by_node.proofs.EndsLaws.{run-known, far-in}
 use Rattle.tree_growth.proofs.QueueLaws.{Run, Row, queue-start, queue-most, queue-lacks, run-start, run-pass, run-step, run-end, grown-stuck, grown-done}
 use Rattle.tree_growth.proofs.grow_queue.Statement.{statement}
 use Rattle.tree_growth.proofs.grow_queue.Tie as tie

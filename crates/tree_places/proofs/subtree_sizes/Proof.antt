@@ -2,11 +2,12 @@
 -- the sizes of its children's subtrees from position i on. A turn adds the node before to its parent.
 -- Assumes nothing.
 use Prim.Native.Nat.{ℕ, _-_, _≤_, _<_}
-use mathlib.Core.Path.{_≡_}
+use mathlib.Core.Path.{_≡_, _∙_}
 use mathlib.Core.List.{List}
 use native.Mathlib.Omega.{arith}
-use lib.ListN.{length, length-set}
+use lib.ListN.{length, replicate, length-set, List·getD-append}
 use borrow.Author.Needs.{needs}
+use borrow.Rule.Slice.PartMut.{midOf, mid-len, same-len-mid}
 use mir.Val.{Fits}
 use mir.Syntax.{w8}
 use Rattle.cuts.specs.Network.{Network, Tree}
@@ -26,18 +27,37 @@ Inv-loop nodes order parents sizes₀ i₀ sizes i =
 abbrev μ-loop : tie.MeasureT-loop
 μ-loop nodes order parents sizes₀ i₀ sizes i = i
 
+sub-own-sizes : tie.Need-sub-own-sizes Inv-loop μ-loop
+sub-own-sizes c = omega arith
+
+part-sizes-start : tie.Need-part-sizes-start Inv-loop μ-loop
+part-sizes-start c = omega arith
+
+part-sizes-end : tie.Need-part-sizes-end Inv-loop μ-loop
+part-sizes-end c = omega arith
+
 own-sizes-requires : tie.Need-own-sizes-requires Inv-loop μ-loop
 own-sizes-requires c κs = tt
 
 loop-holds : tie.Need-loop-holds Inv-loop μ-loop
-loop-holds c = (search needs, omega arith, omega arith, λ net t uplinks w. sized-first w _ (omega arith) (c .own-sizes .ensures))
+loop-holds c =
+    let own = c .before .own-sizes in
+    let n = c .before .before .before .args .nodes in
+    let zeros : List ℕ = replicate mostNodes 0 in
+    let lent : length (midOf 0 (n - 0) zeros) ≡ n - 0 = mid-len 0 n zeros (omega arith) in (
+      same-len-mid 0 (n - 0) zeros (own .last .0) (own .kept .0),
+      omega arith,
+      omega arith,
+      λ net t uplinks w. sized-first w _ (λ x b.
+          List·getD-append (own .last .0) _ 0 x (omega (arith, own .kept .0)) ∙ own .ensures x (omega arith)),
+    )
 
 sub-i : tie.Need-sub-i Inv-loop μ-loop
 sub-i c = omega arith
 
 -- the order and the parents are bytes
 abbrev entered : tie.In-loop Inv-loop μ-loop → tie.Start Inv-loop μ-loop
-entered c = c .before .before .before
+entered c = c .before .before .before .before .before
 
 order-small : (c : tie.In-loop Inv-loop μ-loop) (k : ℕ) → entry (entered c .args .t2) k < 256
 order-small c k = let f : Fits w8 (entry (entered c .args .t2) k) = search needs in omega arith
@@ -104,6 +124,9 @@ subtree-sizes-spec =
     (tie.spec
     Inv-loop
     μ-loop
+    sub-own-sizes
+    part-sizes-start
+    part-sizes-end
     own-sizes-requires
     loop-holds
     sub-i

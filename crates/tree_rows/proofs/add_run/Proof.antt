@@ -10,7 +10,7 @@ use lib.ListN.{length}
 use Rattle.cuts.specs.Network.{Network, Tree}
 use Rattle.cuts.specs.Limits.{mostNodes}
 use Rattle.tree_rows.specs.Rows.{Tallied}
-use Rattle.tree_rows.specs.Making.{placesIn, nodesIn, Searched}
+use Rattle.tree_rows.specs.Making.{placesIn, nodesIn, TreeHeld}
 use Rattle.tree_rows.proofs.RowLaws.{tallied-behind}
 use Rattle.tree_rows.proofs.add_run.Statement.{statement}
 use Rattle.tree_rows.proofs.add_run.Tie as tie
@@ -18,7 +18,7 @@ use Rattle.tree_rows.proofs.add_run.Tie as tie
 abbrev Inv-loop : tie.InvT-loop
 Inv-loop f₀ ends weights lists bytes from to p₀ f p =
     (length f ≡ mostNodes) × (from ≤ p) × (p ≤ max from to)
-    × ((net : Network) (t : Tree) (stops links : List ℕ) (nodes first : ℕ) → Searched net t ends weights lists (placesIn bytes) (nodesIn bytes) stops links nodes
+    × ((net : Network) (t : Tree) (stops links : List ℕ) (nodes first : ℕ) → TreeHeld net t ends weights lists (placesIn bytes) (nodesIn bytes) stops links nodes
     → first ≤ from → from ≤ to → to ≤ nodes → Tallied net (placesIn bytes) first from f₀ → Tallied net (placesIn bytes) first p f)
 
 abbrev μ-loop : tie.MeasureT-loop

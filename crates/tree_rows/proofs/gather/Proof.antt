@@ -12,10 +12,10 @@ use Rattle.tree_rows.proofs.gather.Statement.{statement}
 use Rattle.tree_rows.proofs.gather.Tie as tie
 
 abbrev Inv-loop : tie.InvT-loop
-Inv-loop out₀ node from p₀ out p = (length out ≡ mostNodes) × (p ≤ mostNodes) × ((q : ℕ) → q < p → entry out q ≡ entry from (entry node q))
+Inv-loop out₀ nodes node from p₀ out p = (length out ≡ mostNodes) × (p ≤ nodes) × ((q : ℕ) → q < p → entry out q ≡ entry from (entry node q))
 
 abbrev μ-loop : tie.MeasureT-loop
-μ-loop out₀ node from p₀ out p = mostNodes - p
+μ-loop out₀ nodes node from p₀ out p = nodes - p
 
 loop-holds : tie.Need-loop-holds Inv-loop μ-loop
 loop-holds c = (omega arith, omega arith, λ q l. absurd (omega arith))

@@ -1,25 +1,24 @@
 -- `tree_rows::sum_row` meets its contract. Both loops' invariant: the sums up to y are there and the other parts are as they were where the
 -- loop began. In the first, y is one of the places, in the second it is behind them.
 -- Assumes nothing.
-use Prim.Native.Nat.{ℕ, _-_, _≤_, _<_, max}
-use mathlib.Core.Path.{_≡_, subst}
+use Prim.Native.Nat.{ℕ, _-_, _≤_, max}
+use mathlib.Core.Path.{_≡_, sym, subst}
 use native.Mathlib.Omega.{arith}
-use lib.ListN.{length, length-set}
-use Rattle.cuts.specs.Limits.{mostNodes}
-use Rattle.tree_rows.specs.Rows.{figuresLength, sumsIn, Summed}
-use Rattle.tree_rows.proofs.PartLaws.{Same, same-self, same-then, same-back, same-sum, done-degrees, done-tallies, done-sums, done-alone, done-singles}
-use Rattle.tree_rows.proofs.SumLaws.{Summing, summing-start, summing-more, step-in, step-out, summable-same}
+use Rattle.tree_rows.specs.Rows.{sumsIn, Summed}
+use Rattle.tree_rows.specs.Making.{BesideSums}
+use Rattle.tree_rows.proofs.PartLaws.{sumsIn-at, beside-none, beside-then, beside-sum}
+use Rattle.tree_rows.proofs.SumLaws.{Summing, summing-start, summing-more, step-in, step-out, summable-beside}
 use Rattle.tree_rows.proofs.sum_row.Statement.{statement}
 use Rattle.tree_rows.proofs.sum_row.Tie as tie
 
 abbrev Inv-loop : tie.InvT-loop
-Inv-loop figures₀ nodes stop u sum₀ y₀ figures sum y = Summing stop nodes u figures sum y × (y ≤ max u stop) × Same figures figures₀
+Inv-loop figures₀ nodes stop u sum₀ y₀ figures sum y = Summing stop nodes u figures sum y × (y ≤ max u stop) × BesideSums figures₀ figures
 
 abbrev μ-loop : tie.MeasureT-loop
 μ-loop figures₀ nodes stop u sum₀ y₀ figures sum y = stop - y
 
 abbrev Inv-loop2 : tie.InvT-loop2
-Inv-loop2 figures₀ nodes stop u sum₀ y₀ figures sum y = Summing stop nodes u figures sum y × (stop ≤ y) × (y ≤ max nodes (max u stop)) × Same figures figures₀
+Inv-loop2 figures₀ nodes stop u sum₀ y₀ figures sum y = Summing stop nodes u figures sum y × (stop ≤ y) × (y ≤ max nodes (max u stop)) × BesideSums figures₀ figures
 
 abbrev μ-loop2 : tie.MeasureT-loop2
 μ-loop2 figures₀ nodes stop u sum₀ y₀ figures sum y = nodes - y
@@ -27,9 +26,6 @@ abbrev μ-loop2 : tie.MeasureT-loop2
 -- where the function begins
 abbrev start : tie.At-loop Inv-loop μ-loop Inv-loop2 μ-loop2 → tie.Start Inv-loop μ-loop Inv-loop2 μ-loop2
 start c = c .before .before
-
-add-figures : tie.Need-add-figures Inv-loop μ-loop Inv-loop2 μ-loop2
-add-figures c = omega arith
 
 mul-figures : tie.Need-mul-figures Inv-loop μ-loop Inv-loop2 μ-loop2
 mul-figures c = omega arith
@@ -40,7 +36,7 @@ slice-write-figures c = omega arith
 loop-holds : tie.Need-loop-holds Inv-loop μ-loop Inv-loop2 μ-loop2
 loop-holds c =
     let a = c .before .args in
-    (summing-start (a .stop) (a .nodes) (a .u) (a .figures .now) (omega arith) (omega arith), omega arith, same-self _)
+    (summing-start (a .stop) (a .nodes) (a .u) (a .figures .now) (omega arith) (omega arith), omega arith, beside-none _)
 
 mul-wrapping-sub-u64 : tie.Need-mul-wrapping-sub-u64 Inv-loop μ-loop Inv-loop2 μ-loop2
 mul-wrapping-sub-u64 c = omega arith
@@ -89,13 +85,13 @@ loop-again c =
           (λ net place g. step-in g (omega arith) (v .y) (v .inv .0 .begun) (t .loop-test .taken) (c .before .wrapping-sub-u64 .ensures) (omega arith))
           (c .wrapping-add-u64 .ensures),
       omega arith,
-      same-then (same-sum (v .figures) _ _ (omega arith)) (v .inv .2),
+      beside-then (v .inv .2) (beside-sum (v .figures) _ _ (omega arith)),
     )
 
 loop2-holds : tie.Need-loop2-holds Inv-loop μ-loop Inv-loop2 μ-loop2
 loop2-holds c =
     let v = c .before .loop in
-    (v .inv .0, c .loop-test .left, omega (arith, v .inv .1), same-self _)
+    (v .inv .0, c .loop-test .left, omega (arith, v .inv .1), beside-none _)
 
 add-wrapping-add-u64 : tie.Need-add-wrapping-add-u64 Inv-loop μ-loop Inv-loop2 μ-loop2
 add-wrapping-add-u64 c = omega arith
@@ -133,45 +129,33 @@ loop2-again c =
           (c .wrapping-add-u642 .ensures),
       omega arith,
       omega arith,
-      same-then (same-sum (v .figures) _ _ (omega arith)) (v .inv .3),
+      beside-then (v .inv .3) (beside-sum (v .figures) _ _ (omega arith)),
     )
 
-mul-figures-4 : tie.Need-mul-figures-4 Inv-loop μ-loop Inv-loop2 μ-loop2
-mul-figures-4 c = omega arith
+mul-result : tie.Need-mul-result Inv-loop μ-loop Inv-loop2 μ-loop2
+mul-result c = omega arith
 
-slice-read-figures : tie.Need-slice-read-figures Inv-loop μ-loop Inv-loop2 μ-loop2
-slice-read-figures c = omega arith
-
-mul-figures-5 : tie.Need-mul-figures-5 Inv-loop μ-loop Inv-loop2 μ-loop2
-mul-figures-5 c = omega arith
-
-slice-write-figures-4 : tie.Need-slice-write-figures-4 Inv-loop μ-loop Inv-loop2 μ-loop2
-slice-write-figures-4 c = omega arith
+slice-read-result : tie.Need-slice-read-result Inv-loop μ-loop Inv-loop2 μ-loop2
+slice-read-result c = omega arith
 
 same-length : tie.Need-same-length Inv-loop μ-loop Inv-loop2 μ-loop2
-same-length c = let v = c .before .before .loop2 .inv .0 .long in simp length-set (omega arith)
+same-length c = let v = c .before .before .loop2 .inv .0 .long in omega arith
 
 returns : tie.Need-returns Inv-loop μ-loop Inv-loop2 μ-loop2
 returns c =
     let v = c .before .before .loop2 in
     let w = c .before .before .before .before in
     let a = start w .args in
-    let b : a .u < mostNodes = omega arith in
-    let e : length (v .figures) ≡ figuresLength = v .inv .0 .long in
-    let s = same-then (v .inv .3) (same-then (w .loop .inv .2) (same-sum (a .figures .now) (a .u) 0 (omega arith))) in (
-      record {
-        summed = λ net place g.
-            let n = g .sized in
-            let i = g .inside in
-            let q : v .y ≡ net .nodes = omega (arith, v .inv .2, g .above) in
-            rw (done-sums s (a .u) (a .stop) b) (subst (λ (y : ℕ). Summed net place (a .u) (a .stop) y (sumsIn (v .figures))) q (v .inv .0 .summed net place (summable-same (same-back s) g)));
-        alone = done-alone s (a .u) (a .stop) b e (omega arith);
-      },
-      record {
-        beside = record { degrees = done-degrees s (a .u) (a .stop) b; singles = done-singles s (a .u) (a .stop) b };
-        tallies = done-tallies s (a .u) (a .stop) b;
-      },
-    )
+    let s = beside-then (beside-then (beside-sum (a .figures .now) (a .u) 0 (omega arith)) (w .loop .inv .2)) (v .inv .3) in
+    record {
+      summed = λ net place g.
+          let n = g .sized in
+          let i = g .inside in
+          let q : v .y ≡ net .nodes = omega (arith, v .inv .2, g .above) in
+          subst (λ (y : ℕ). Summed net place (a .u) (a .stop) y (sumsIn (v .figures))) q (v .inv .0 .summed net place (summable-beside s g));
+      alone = sym (sumsIn-at (v .figures) (a .stop) (omega arith));
+      beside = s;
+    }
 
 pub sum-row-spec : {M : Type 1} → statement M
 sum-row-spec =
@@ -207,10 +191,7 @@ sum-row-spec =
     slice-write-figures-3
     loop2-less
     loop2-again
-    mul-figures-4
-    slice-read-figures
-    add-figures
-    mul-figures-5
-    slice-write-figures-4
+    mul-result
+    slice-read-result
     same-length
     returns)

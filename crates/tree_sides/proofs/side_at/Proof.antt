@@ -1,9 +1,9 @@
--- `tree_sides::side_at` meets its contract: the nodes below a link are those between the rows of its place and of its stop, and for one
--- link the first row stands for both rows of a second. Assumes nothing.
+-- `tree_sides::side_at` meets its contract: the nodes below a link are those between the layers of its place and of its stop, and for one
+-- link the first layer stands for both layers of a second. Assumes nothing.
 use borrow.Author.Needs.{needs}
 use native.Mathlib.Omega.{arith}
 use Rattle.arrays.specs.Lists.{entry}
-use Rattle.tree_sides.proofs.NodeLaws.{odd-side, one-in-rows, two-in-rows}
+use Rattle.tree_sides.proofs.NodeLaws.{odd-side, one-in-layers, two-in-layers}
 use Rattle.tree_sides.proofs.side_at.Statement.{statement}
 use Rattle.tree_sides.proofs.side_at.Tie as tie
 
@@ -31,8 +31,8 @@ returns c net t place node links k i j m =
     let f = c .before in
     let s = f .before .before in
     let a = s .args in
-    odd-side (a .rows .now) (entry (a .stops .now) (a .u)) (a .u) 0 0 (c .odd-words .ensures)
-    (one-in-rows (a .rows .now) k m i j (s .pre) (f .if1 .taken))
+    odd-side (a .layers .now) (entry (a .stops .now) (a .u)) (a .u) 0 0 (c .odd-words .ensures)
+    (one-in-layers (a .layers .now) k m i j (f .if1 .taken))
 
 mul-end : tie.Need-mul-end
 mul-end c = search needs
@@ -58,8 +58,8 @@ returns-2 c net t place node links k i j m =
     let f = c .before .before in
     let s = f .before .before in
     let a = s .args in
-    odd-side (a .rows .now) (entry (a .stops .now) (a .u)) (a .u) (entry (a .stops .now) (a .v)) (a .v) (c .odd-words2 .ensures)
-    (two-in-rows (a .rows .now) k m i j (s .pre) (f .if1 .left))
+    odd-side (a .layers .now) (entry (a .stops .now) (a .u)) (a .u) (entry (a .stops .now) (a .v)) (a .v) (c .odd-words2 .ensures)
+    (two-in-layers (a .layers .now) k m i j (f .if1 .left))
 
 pub side-at-spec : {M : Type 1} → statement M
 side-at-spec =

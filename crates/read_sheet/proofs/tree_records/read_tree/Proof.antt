@@ -17,7 +17,7 @@ use Rattle.read_sheet.proofs.TreeLaws.{map-counted, cut-off-at, refused
 use Rattle.read_sheet.proofs.tree_records.read_tree.Statement.{statement}
 use Rattle.read_sheet.proofs.tree_records.read_tree.Tie as tie
 
--- the places on the way, each from a later one: the entry, the map taken, and a map that passed
+-- the points on the way, each from a later one: the entry, the map taken, and a map that passed
 abbrev start : tie.After-tree-map → tie.Start
 start c = c .before .before .before .before
 

@@ -26,7 +26,7 @@ Inv-loop s from nodes links trees ends at₀ i₀ at i =
 abbrev μ-loop : tie.MeasureT-loop
 μ-loop s from nodes links trees ends at₀ i₀ at i = trees - i
 
--- the places on the way, each from a later one: the entry and the loop's test
+-- the points on the way, each from a later one: the entry and the loop's test
 abbrev start : tie.At-loop Inv-loop μ-loop → tie.Start Inv-loop μ-loop
 start c = c .before .before
 

@@ -1,6 +1,0 @@
-pub mod PickedLaws
-pub mod CountingLaws
-pub mod StrikeLaws
-pub mod TurnLaws
-pub mod StartLaws
-pub mod WritingLaws
