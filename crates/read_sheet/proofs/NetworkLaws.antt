@@ -1,13 +1,13 @@
 -- The network that the arrays and the tree records of a sheet hold, once it was read: its counts, its links as the arrays have them, and each
 -- of its trees by its record. Assumes nothing.
-use Prim.Native.Nat.{ℕ, _+_, _-_, _*_, _≤_, _<_}
+use Prim.Native.Nat.{ℕ, _+_, _-_, _*_, _<_}
 use mathlib.Core.Path.{_≡_, refl, sym, ap, _∙_, subst}
 use mathlib.Core.List.{List, []}
 use native.Mathlib.Omega.{arith}
 use lib.ListN.{length, drop}
 use lib.Seq.{drop-drop}
 use Rattle.cuts.specs.Sums.{countTo}
-use Rattle.cuts.specs.Network.{Network, Link, Tree, noTree, linkAt, linkCount, treeAt}
+use Rattle.cuts.specs.Network.{Network, Link, noTree, linkAt, linkCount, treeAt}
 use Rattle.cuts.specs.Tree.{Spanning}
 use Rattle.cuts.proofs.SumLaws.{table-length, table-at}
 use Rattle.arrays.specs.Lists.{entry, part}

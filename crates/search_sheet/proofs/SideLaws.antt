@@ -3,7 +3,7 @@
 use Prim.Native.Nat.{ℕ}
 use mathlib.Core.Path.{_≡_, sym, ap, subst}
 use mathlib.Core.List.{List}
-use Rattle.cuts.specs.Network.{Network, Tree, treeAt}
+use Rattle.cuts.specs.Network.{Network, treeAt}
 use Rattle.cuts.specs.Tree.{Sound}
 use Rattle.cuts.specs.Candidate.{Handle, Fits, sideOf, Candidate, candidate, fewerNodes}
 use Rattle.cuts.specs.Answer.{reported}

@@ -1,6 +1,5 @@
 -- The trees of a sheet that was read: each has its record, and the links can be listed by node. Assumes nothing.
 use Prim.Native.Nat.{ℕ, _<_}
-use mathlib.Core.Path.{_≡_}
 use mathlib.Core.List.{List}
 use lib.ListN.{length}
 use Rattle.cuts.specs.Network.{Network}

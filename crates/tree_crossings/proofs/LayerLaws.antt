@@ -7,7 +7,7 @@ use mathlib.Core.Bool.{Bool, true, false, _&&_, xor}
 use mathlib.Core.List.{List}
 use native.Mathlib.Decide.{ℕ-discrete}
 use native.Mathlib.Omega.{arith}
-use lib.ListN.{length, replicate, length-replicate}
+use lib.ListN.{replicate}
 use lib.Dec.{eqb, ltb, eqb·zero-suc, leb·suc-zero}
 use borrow.Author.Tests.{eq-eqb, ne-eqb, lt-ltb, le-ltb}
 use Rattle.cuts.specs.Sums.{countTo, only}
@@ -16,7 +16,7 @@ use Rattle.cuts.proofs.FlagLaws.{one-table}
 use Rattle.cuts.proofs.SumLaws.{sum-congr, sum-append}
 use Rattle.bit_table.specs.Bits.{wordBits, wordBit, bitOf}
 use Rattle.bit_table.proofs.BitLaws.{bitOf-clear}
-use Rattle.place_layers.specs.Layers.{layersLength, LayersSummed, oddly, oddWord}
+use Rattle.place_layers.specs.Layers.{LayersSummed, oddly, oddWord}
 use Rattle.place_layers.proofs.LayerLaws.{layer-bit, below-next, turn, first-layer, next-layer, odd-bit}
 use Rattle.tree_crossings.specs.Layers.{endPlace, EndsFlipped, EndsParted}
 

@@ -1,6 +1,5 @@
 -- `op_list::list_listed` meets its contract: the sides are counted, all of them where the area has room for them, and then they are written.
 -- Assumes nothing.
-use Prim.Native.Nat.{_≤_}
 use borrow.Author.Needs.{needs}
 use mathlib.Core.Path.{_≡_, sym, ap, _∙_}
 use mathlib.Core.List.{[]}

@@ -1,7 +1,6 @@
 -- `sheet_trees::place_record` meets its contract: the map of the record is the tree's, and the tree spans, so that it grows whole.
 -- Assumes nothing.
 use mathlib.Core.Path.{sym, ap, _∙_, subst}
-use borrow.Author.Needs.{needs}
 use lib.ListN.{length, drop}
 use Rattle.cuts.specs.Sums.{countTo, table}
 use Rattle.cuts.specs.Network.{Network, Tree}
