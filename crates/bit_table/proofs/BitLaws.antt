@@ -188,11 +188,14 @@ module _ (words : List ℕ) (q : ℕ) where
         let i = first-inside in
         ahead-at k l (omega arith) ∙ trailing-unset wordBits (ahead words q) (k - q) (omega arith)
 
+-- no bit of a word that is 0 is set
+pub bitOf-none : (words : List ℕ) (k : ℕ) → entry words (k / wordBits) ≡ 0 → bitOf words k ≡ false
+unfolding bitOf
+bitOf-none words k e = ap (λ (x : ℕ). wordBit x (k % wordBits)) e ∙ wordBit-past 0 0 (k % wordBits) (omega arith) (omega arith)
+
 -- no bit of words that are 0 is set
 pub bitOf-clear : (n k : ℕ) → bitOf (replicate n 0) k ≡ false
-unfolding bitOf
-bitOf-clear n k =
-    ap (λ (x : ℕ). wordBit x (k % wordBits)) (word (decLt (k / wordBits) n)) ∙ wordBit-past 0 0 (k % wordBits) (omega arith) (omega arith)
+bitOf-clear n k = bitOf-none (replicate n 0) k (word (decLt (k / wordBits) n))
   where
     word : Dec (k / wordBits < n) → entry (replicate n 0) (k / wordBits) ≡ 0
     word (yes b) = getD-replicate n (k / wordBits) 0 0 b

@@ -2,9 +2,9 @@
 ghost use mathlib.Core.Path.{_≡_};
 ghost use mathlib.Core.Bool.{_||_, xor};
 ghost use Prim.Native.Nat.{ℕ, _*_, _<_};
-ghost use lib.ListN.{length, replicate};
+ghost use lib.ListN.{length};
 ghost use lib.Dec.{eqb};
-ghost use Rattle.bit_table.specs.Bits.{wordBits, bitOf, BitsAhead, NextBit};
+ghost use Rattle.bit_table.specs.Bits.{wordBits, bitOf, WordsAhead, NextWord, BitsAhead, NextBit};
 
 // The bits of a word.
 const WORD_BITS: usize = 64;
@@ -25,15 +25,19 @@ pub fn flip_bit(words: &mut [u64], q: usize)
     words[q / WORD_BITS] = words[q / WORD_BITS] ^ (1 << (q % WORD_BITS));
 }
 
-// Takes all bits off.
-pub fn clear_bits(words: &mut [u64])
-    ensures { λ _. ⌜ now (words .exit) ≡ replicate (length (now (words .entry))) 0 ⌝ }
+// The first word from word `from` on that has a bit set, `end` where there is none in front of it.
+fn next_word(words: &[u64], from: usize, end: usize) -> usize
+    requires { ⌜ WordsAhead (now words) from end ⌝ }
+    ensures { λ r. ⌜ NextWord (now (words .entry)) from end r ⌝ }
 {
-    let mut i = 0;
-    while i < words.len() {
-        words[i] = 0;
-        i += 1;
+    let mut w = from;
+    while w < end {
+        if words[w] != 0 {
+            return w;
+        }
+        w += 1;
     }
+    end
 }
 
 // The first bit from `from` on that is set, `end` where there is none in front of it.
@@ -51,11 +55,12 @@ pub fn next_bit(words: &[u64], from: usize, end: usize) -> usize
             }
             return end;
         }
-        let step = WORD_BITS - q % WORD_BITS;
-        if end - q <= step {
+        let stop = (end - 1) / WORD_BITS + 1;
+        let word = next_word(words, q / WORD_BITS + 1, stop);
+        if word == stop {
             return end;
         }
-        q += step;
+        q = WORD_BITS * word;
     }
     end
 }

@@ -6,14 +6,17 @@
 --   InRows n u v x y       x and y are places but the root's of n, x no later than y, passed before row u, column v
 --   LightMarked net t l rk P limit table   where l has the links and rk the ranks by place, the bits set are the cells of those pairs of
 --                          places P that weigh no more than the limit
+--   Markable table ends lists node stops nodes   no bit of the table is set, and a tree can be gone through by rows in the arrays
 use Prim.Native.Nat.{ℕ, _+_, _*_, _≤_, _<_, min, max}
 use mathlib.Core.Path.{_≡_}
 use mathlib.Core.Bool.{true}
 use mathlib.Core.List.{List}
+use lib.ListN.{length, replicate}
 use Rattle.cuts.specs.Network.{Network, Tree}
 use Rattle.cuts.specs.Candidate.{weightOf}
 use Rattle.cuts.specs.Limits.{mostNodes}
 use Rattle.arrays.specs.Lists.{entry}
+use Rattle.tree_rows.specs.Making.{Searchable}
 use Rattle.search_order.specs.Visits.{handleAt, passed}
 use Rattle.bit_table.specs.Bits.{bitOf}
 use Rattle.bit_table.specs.Cells.{cellsEnd}
@@ -40,3 +43,7 @@ pub record LightMarked (net : Network) (t : Tree) (links rank : List ℕ) (among
       × (weightOfPlaces net t links x y ≤ limit) × (cellAt rank x y ≡ q)
   pub every : (x y : ℕ) → among x y → weightOfPlaces net t links x y ≤ limit
       → bitOf table (cellAt rank x y) ≡ true
+
+pub record Markable (table : List ℕ) (ends : List (List ℕ)) (lists node stops : List ℕ) (nodes : ℕ) : Type 0 where
+  pub clear : table ≡ replicate (length table) 0
+  pub searchable : Searchable ends lists node stops nodes

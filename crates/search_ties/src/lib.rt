@@ -1,5 +1,4 @@
 // Marks the candidates of one tree that weigh no more than a limit, all of them, in a table of bits, by the ranks of their links.
-use bit_table::clear_bits;
 use bit_table::set_bit;
 use by_node::LISTS;
 use format::limits::MOST_LINKS;
@@ -18,12 +17,11 @@ ghost use lib.Dec.{leb};
 ghost use Rattle.cuts.specs.Network.{Network, Tree};
 ghost use Rattle.cuts.specs.Candidate.{weightOf};
 ghost use Rattle.arrays.specs.ByNode.{Degrees};
-ghost use Rattle.tree_rows.specs.Rows.{PlaceDegrees, degreesIn};
-ghost use Rattle.tree_rows.specs.Making.{Searchable};
+ghost use Rattle.tree_rows.specs.Making.{placesIn, nodesIn, RowsHeld};
 ghost use Rattle.tree_rows.specs.Reading.{RowHeld, RowAt};
-ghost use Rattle.tree_ranks.specs.Ranks.{RankedHeld};
+ghost use Rattle.tree_ranks.specs.Ranks.{RanksOf, RankedHeld};
 ghost use Rattle.bit_table.specs.Cells.{Tabled};
-ghost use Rattle.search_ties.specs.Ties.{IsCellOf, InRows, LightMarked};
+ghost use Rattle.search_ties.specs.Ties.{IsCellOf, InRows, LightMarked, Markable};
 
 // The cell of the links of two ranks, which is that of one link where they are equal.
 fn cell(a: u8, b: u8) -> usize
@@ -64,7 +62,7 @@ fn mark_row(
     }
 }
 
-// Marks the candidates of a tree that weigh no more than the limit; `figures` has the degrees by place.
+// Marks the candidates of a tree that weigh no more than the limit, row by row; `figures` has the degrees by place.
 fn mark_rows(
     table: &mut [u64; TABLE],
     figures: &mut [u64; FIGURES],
@@ -72,30 +70,28 @@ fn mark_rows(
     ends: &[[u8; MOST_LINKS]; 2],
     weights: &[u32; MOST_LINKS],
     lists: &[u16; LISTS],
-    r: Ranked,
+    bytes: &[[u8; MOST_NODES]; 2],
+    stops: &[u16; MOST_NODES],
+    rank: &[u8; MOST_NODES],
     limit: u64,
 )
-    requires { ⌜ Searchable (now ends) (now lists) (r .node) (r .stops) nodes ⌝ }
-    ensures { λ _. ⌜ ((net : Network) (t : Tree)
-        → RankedHeld net t (now (ends .entry)) (now (weights .entry)) (now (lists .entry)) nodes r
-        → PlaceDegrees net (r .place) (degreesIn (now (figures .entry)))
+    requires { ⌜ Markable (now table) (now ends) (now lists) (nodesIn (now bytes)) (now stops) nodes ⌝ }
+    ensures { λ _. ⌜ ((net : Network) (t : Tree) (links at : List ℕ)
+        → RowsHeld net t (now (ends .entry)) (now (weights .entry)) (now (lists .entry)) (placesIn (now (bytes .entry)))
+        (nodesIn (now (bytes .entry))) (now (stops .entry)) links nodes nodes (now (figures .entry))
+        → RanksOf net t links at (now (rank .entry))
         → Tabled net t (λ h. leb (weightOf net t h) limit) (now (table .exit))) ⌝ }
 {
-    let place = r.place;
-    let node = r.node;
-    let stops = r.stops;
-    let rank = r.rank;
-    let bytes = [place, node];
-    clear_bits(table);
     let mut u = nodes;
     while u > 1 {
         u -= 1;
-        make_row(figures, nodes, ends, weights, lists, &bytes, &stops, u);
-        mark_row(table, figures, nodes, &stops, &rank, u, limit);
+        make_row(figures, nodes, ends, weights, lists, bytes, stops, u);
+        mark_row(table, figures, nodes, stops, rank, u, limit);
     }
 }
 
-// Marks in the table exactly those candidates of a tree that weigh no more than the limit; `degrees` has the weight of each node's links.
+// Marks in the table, which has no bit set, exactly those candidates of a tree that weigh no more than the limit; `degrees` has the weight of
+// each node's links.
 // Cost: as that of `search_tree`.
 pub fn mark_ties(
     table: &mut [u64; TABLE],
@@ -107,14 +103,29 @@ pub fn mark_ties(
     r: Ranked,
     limit: u64,
 )
-    requires { ⌜ Searchable (now ends) (now lists) (r .node) (r .stops) nodes ⌝ }
+    requires { ⌜ Markable (now table) (now ends) (now lists) (r .node) (r .stops) nodes ⌝ }
     ensures { λ _. ⌜ ((net : Network) (t : Tree)
         → RankedHeld net t (now (ends .entry)) (now (weights .entry)) (now (lists .entry)) nodes r
         → Degrees net (now (degrees .entry))
         → Tabled net t (λ h. leb (weightOf net t h) limit) (now (table .exit))) ⌝ }
 {
+    let place = r.place;
     let node = r.node;
+    let stops = r.stops;
+    let rank = r.rank;
+    let bytes = [place, node];
     let mut figures = [0u64; FIGURES];
     weigh_places(&mut figures, nodes, &node, degrees);
-    mark_rows(table, &mut figures, nodes, ends, weights, lists, r, limit);
+    mark_rows(
+        table,
+        &mut figures,
+        nodes,
+        ends,
+        weights,
+        lists,
+        &bytes,
+        &stops,
+        &rank,
+        limit,
+    );
 }

@@ -36,11 +36,15 @@ struct Intervals {
     stop: [u16; MOST_NODES],
 }
 
-// The sum, which is at most MOST_NODES where the numbers are sizes of subtrees apart.
+// The sum, which is at most MOST_NODES where the numbers are sizes of subtrees apart, so that no remainder is waited for.
 fn sum(a: u16, b: u16) -> u16
     ensures { λ r. ⌜ r ≡ (a + b) % stopNumbers ⌝ }
 {
-    ((a as u32 + b as u32) % STOP_NUMBERS) as u16
+    let s = a as u32 + b as u32;
+    if s < STOP_NUMBERS {
+        return s as u16;
+    }
+    (s % STOP_NUMBERS) as u16
 }
 
 // What each node adds of itself to the size of its subtree.

@@ -1,6 +1,6 @@
 -- `bit_table::next_bit` meets its contract. The loop's invariant: no bit from `from` to q is set.
 -- Assumes nothing.
-use Prim.Native.Nat.{ℕ, _-_, _/_, _^_, _≤_, _<_}
+use Prim.Native.Nat.{ℕ, _+_, _-_, _*_, _/_, _^_, _≤_, _<_}
 use mathlib.Core.Path.{_≡_}
 use mathlib.Core.Bool.{false}
 use mathlib.Core.List.{List}
@@ -9,7 +9,7 @@ use native.Mathlib.Omega.{arith}
 use lib.Count.{trailing-le}
 use Rattle.arrays.specs.Lists.{entry}
 use Rattle.bit_table.specs.Bits.{wordBits, bitOf}
-use Rattle.bit_table.proofs.BitLaws.{ahead, none-ahead, first-inside, first-ahead, none-before-first}
+use Rattle.bit_table.proofs.BitLaws.{ahead, none-ahead, bitOf-none, first-inside, first-ahead, none-before-first}
 use Rattle.bit_table.proofs.next_bit.Statement.{statement}
 use Rattle.bit_table.proofs.next_bit.Tie as tie
 
@@ -41,22 +41,22 @@ shr-left : tie.Need-shr-left Inv-loop μ-loop
 shr-left c = omega arith
 
 -- a word is of 64 bits
-small : (c : tie.After-shared-slice-known Inv-loop μ-loop)
-    → entry (c .before .before .before .args .words .now) (c .before .before .loop .q / wordBits) < 2 ^ wordBits
-small c = omega (arith, c .shared-slice-known .given (c .before .before .loop .q / wordBits))
+small : (c : tie.After-shared-slice-known2 Inv-loop μ-loop)
+    → entry (c .before .before .before .before .args .words .now) (c .before .before .loop .q / wordBits) < 2 ^ wordBits
+small c = omega (arith, c .shared-slice-known2 .given (c .before .before .loop .q / wordBits))
 
 cast-found : tie.Need-cast-found Inv-loop μ-loop
-cast-found c = omega (arith, trailing-le 64 (ahead (c .before .before .before .before .args .words .now) (c .before .before .before .loop .q)))
+cast-found c = omega (arith, trailing-le 64 (ahead (c .before .before .before .before .before .args .words .now) (c .before .before .before .loop .q)))
 
 add-found : tie.Need-add-found Inv-loop μ-loop
 add-found c =
     let l = c .before .before .before .loop in
-    omega (arith, first-inside (c .before .before .before .before .args .words .now) (l .q) (small (c .before)) (c .if1 .taken))
+    omega (arith, first-inside (c .before .before .before .before .before .args .words .now) (l .q) (small (c .before)) (c .if1 .taken))
 
 returns : tie.Need-returns Inv-loop μ-loop
 returns c =
     let i = c .before in
-    let a = i .before .before .before .before .args in
+    let a = i .before .before .before .before .before .args in
     let l = i .before .before .before .loop in
     let w = small (i .before) in
     record {
@@ -69,7 +69,7 @@ returns c =
 returns-2 : tie.Need-returns-2 Inv-loop μ-loop
 returns-2 c =
     let i = c .before in
-    let a = i .before .before .before .before .args in
+    let a = i .before .before .before .before .before .args in
     let l = i .before .before .before .loop in
     let w = small (i .before) in
     record {
@@ -80,36 +80,60 @@ returns-2 c =
       is-set = λ b. absurd (omega arith);
     }
 
-sub-step : tie.Need-sub-step Inv-loop μ-loop
-sub-step c = omega arith
+sub-stop : tie.Need-sub-stop Inv-loop μ-loop
+sub-stop c = omega arith
 
-sub-if3 : tie.Need-sub-if3 Inv-loop μ-loop
-sub-if3 c = omega arith
+add-stop : tie.Need-add-stop Inv-loop μ-loop
+add-stop c = omega arith
+
+add-next-word : tie.Need-add-next-word Inv-loop μ-loop
+add-next-word c = omega arith
+
+next-word-requires : tie.Need-next-word-requires Inv-loop μ-loop
+next-word-requires c κs = record { up-to = omega arith; inside = omega arith }
+
+-- no bit is set from q on, up to the word that was found
+module _ (c : tie.After-next-word Inv-loop μ-loop) where
+  abbrev at : ℕ
+  at = c .before .before .before .before .loop .q
+
+  abbrev all : List ℕ
+  all = c .before .before .before .before .before .before .args .words .now
+
+  none-up-to : (k : ℕ) → at ≤ k → k < wordBits * c .next-word .result → bitOf all k ≡ false
+  none-up-to k l b = go (decLt (k / wordBits) (at / wordBits + 1))
+    where
+      go : Dec (k / wordBits < at / wordBits + 1) → bitOf all k ≡ false
+      go (yes d) = none-ahead all at (c .before .if1 .left) k l (omega arith)
+      go (no d) = bitOf-none all k (c .next-word .ensures .none (k / wordBits) (omega arith) (omega arith))
 
 returns-3 : tie.Need-returns-3 Inv-loop μ-loop
 returns-3 c =
-    let i = c .before in
-    let a = i .before .before .before .before .args in
+    let i = c .before .before in
+    let a = i .before .before .before .before .before .args in
     let l = i .before .before .before .loop in
+    let w = c .if3 .taken in
     record {
       behind = omega arith;
       up-to = omega arith;
-      unset = joined (a .words .now) (a .from) (l .q) _ (l .inv .2) (λ k b d. none-ahead (a .words .now) (l .q) (i .if1 .left) k b (omega arith));
+      unset = joined (a .words .now) (a .from) (l .q) _ (l .inv .2) (λ k b d. none-up-to (c .before) k b (omega arith));
       is-set = λ b. absurd (omega arith);
     }
 
-add-q : tie.Need-add-q Inv-loop μ-loop
-add-q c = omega arith
+mul-q : tie.Need-mul-q Inv-loop μ-loop
+mul-q c = let n = c .before .next-word .ensures in let w = c .if3 .left in omega (arith, n .up-to)
 
 loop-less : tie.Need-loop-less Inv-loop μ-loop
-loop-less c = omega arith
+loop-less c = let n = c .before .next-word .ensures in let w = c .if3 .left in omega (arith, n .up-to, n .behind)
 
 loop-again : tie.Need-loop-again Inv-loop μ-loop
 loop-again c =
-    let i = c .before in
-    let a = i .before .before .before .before .args in
+    let i = c .before .before in
+    let a = i .before .before .before .before .before .args in
     let l = i .before .before .before .loop in
-    (omega arith, omega arith, joined (a .words .now) (a .from) (l .q) _ (l .inv .2) (none-ahead (a .words .now) (l .q) (i .if1 .left)))
+    let n = c .before .next-word .ensures in
+    let w = c .if3 .left in
+    (omega (arith, n .behind), omega (arith, n .up-to), joined (a .words .now) (a .from) (l .q) _ (l .inv .2) (none-up-to (c .before)))
 
 returns-4 : tie.Need-returns-4 Inv-loop μ-loop
 returns-4 c =
@@ -130,10 +154,12 @@ next-bit-spec =
     add-found
     returns
     returns-2
-    sub-step
-    sub-if3
+    sub-stop
+    add-stop
+    add-next-word
+    next-word-requires
     returns-3
-    add-q
+    mul-q
     loop-less
     loop-again
     returns-4)

@@ -2,6 +2,7 @@
 use native.Mathlib.Omega.{arith}
 use borrow.Author.Needs.{needs}
 use Rattle.tree_rows.proofs.DegreeLaws.{place-degrees}
+use Rattle.tree_rows.proofs.LoopLaws.{rows-start}
 use Rattle.search_ties.proofs.mark_ties.Statement.{statement}
 use Rattle.search_ties.proofs.mark_ties.Tie as tie
 
@@ -19,12 +20,15 @@ mark-rows-requires c κs = search needs
 
 returns : tie.Need-returns
 returns c =
-    let w = c .before .before .before .before in
-    let s = w .before .before .before .before in
+    let w = c .before .before .before .before .before .before .before in
+    let s = w .before .before .before .before .before .before .before in
     λ net t h d.
+    let k = h .ranked .kept in
     let n = h .indexed .laid .held .sized in
-    c .mark-rows .ensures net t h
-    (place-degrees (h .ranked .kept) (h .indexed .loopless) (s .args .degrees .now) _ d (λ y b. w .weigh-places .ensures .0 y (omega arith)))
+    c .mark-rows .ensures net t (h .ranked .links) (s .args .r .at)
+    (rows-start (record { count = h .count; indexed = h .indexed; kept = k })
+    (place-degrees k (h .indexed .loopless) (s .args .degrees .now) _ d (λ y b. w .weigh-places .ensures .0 y (omega arith))))
+    (h .ranked .ranks)
 
 pub mark-ties-spec : {M : Type 1} → statement M
 mark-ties-spec =
