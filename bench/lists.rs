@@ -16,7 +16,7 @@ const SHORT: usize = 1000;
 const LIMIT: f64 = 4.0;
 /// The same of lists with fewer than so many sides, on the networks by kind.
 const FEW: usize = 100;
-const FEW_LIMIT: f64 = 2.4;
+const FEW_LIMIT: f64 = 2.3;
 /// The same on networks in which most candidates of all trees are of one weight, and few of their sides are shown by two trees.
 const HARD_LIMIT: f64 = 14.0;
 /// The same where the area is too short for a long list.

@@ -58,7 +58,7 @@ struct Ratios {
 }
 
 const LONGEST_LIMITS: Ratios = Ratios { search: 1.3, before: 1.0 / 10.0 };
-const MIDDLE_LIMITS: Ratios = Ratios { search: 1.4, before: 1.0 / 4.0 };
+const MIDDLE_LIMITS: Ratios = Ratios { search: 1.3, before: 1.0 / 4.0 };
 
 fn entry(sheet: &[u8]) -> Outcome {
     let mut outcome = Outcome::unwritten(0);

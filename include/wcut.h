@@ -22,7 +22,7 @@ extern "C" {
 #define WCUT_REPORT_BYTES 24     /* the report area, laid out as below */
 #define WCUT_LONGEST_SHEET 30853 /* a sheet of more bytes is refused */
 #define WCUT_STACK_BYTES 45328   /* what a call takes of the stack: measured on longest sheets (tools/bench --stack), not proved */
-#define WCUT_LIST_STACK_BYTES 56368 /* the same of wcut_list */
+#define WCUT_LIST_STACK_BYTES 56384 /* the same of wcut_list */
 #define WCUT_CORNERS_STACK_BYTES 17664 /* the same of wcut_corners */
 #define WCUT_THICKNESS_STACK_BYTES 45264 /* the same of wcut_thickness */
 #define WCUT_MOST_NODES 256

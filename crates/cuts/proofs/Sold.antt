@@ -71,10 +71,10 @@ module _ (net : Network) (v : Sound net) where
   weight-same : (key other : Key) → reported key net .weight ≡ reported other net .weight
   weight-same key other = let a = weight-least key other in let b = weight-least other key in omega arith
 
-  pub ranks-agree : (counting : Counting) (key other : Key) → let a = by counting key net in let b = by counting other net in
+  pub keys-agree : (counting : Counting) (key other : Key) → let a = by counting key net in let b = by counting other net in
       (a .best .weight ≡ b .best .weight) × (a .floor ≡ b .floor) × (a .verdict ≡ b .verdict)
   unfolding answer judged
-  ranks-agree counting key other =
+  keys-agree counting key other =
       let same = weight-same key other in
       let floorOf : ℕ → ℕ = floor (counted counting net (net .trees)) in
       (same, ap floorOf same, ap (λ (w : ℕ). verdictOf (floorOf w) w) same)

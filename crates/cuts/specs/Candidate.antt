@@ -16,7 +16,7 @@
 --   candidatesFrom net i ts    the candidates of the trees ts, which are numbered from i
 --   candidates net             all candidates: by tree, first link, one link before two, second link
 --   noCandidate                what stands for the first of no candidates; a sound network has some
---   Key                       a number that decides between candidates of one weight before their trees do: the lower comes first
+--   Key                        a number that decides between candidates of one weight before their trees do: the lower comes first
 --   alike                      document 01's key, of units already sold: it decides nothing
 --   fewerNodes                 the key of request F-6: the number of nodes in the side
 --   ahead k d c                d weighs less than c; of one weight, d has the lower key by k. The list has the rest of the order

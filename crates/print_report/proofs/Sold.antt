@@ -9,7 +9,7 @@ use Rattle.cuts.specs.Network.{Network}
 use Rattle.cuts.specs.Candidate.{alike, fewerNodes}
 use Rattle.cuts.specs.Bound.{Packed, longestRun}
 use Rattle.cuts.specs.Answer.{Answer, certified, judged, answer}
-use Rattle.cuts.proofs.Sold.{answer-before, floor-no-less, certified-before, ranks-agree, count-no-more}
+use Rattle.cuts.proofs.Sold.{answer-before, floor-no-less, certified-before, keys-agree, count-no-more}
 use Rattle.sheet.specs.Bytes.{Bytes}
 use Rattle.sheet.specs.Reading.{Reading, accepted, refused, numberOf}
 use Rattle.sheet.specs.Sheet.{Format, base, wide, tolerant, trunked, current, decode}
@@ -104,7 +104,7 @@ pub lines-reordered : (sheet : Bytes) (net : Network) (rest : Bytes) → decode 
 unfolding answer judged
 lines-reordered sheet net rest e =
     let v = decode-accepted current sheet net rest e .sound in
-    let same = ranks-agree net v longestRun fewerNodes alike in
+    let same = keys-agree net v longestRun fewerNodes alike in
     record {
       answered = answer (current .rules) net;
       before = answer (trunked .rules) net;

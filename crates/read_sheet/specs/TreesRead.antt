@@ -1,13 +1,14 @@
 -- Tree records: where they stand, and what reading them asks and answers. Assumes nothing.
---   PositionFits p m i            the record of tree i, of records for m links from position p on, stands at a number of eight bytes
---   RecordWhole s p m          a whole tree record, for m links, stands at p
---   LinksKnown n m es          the links 0, .., m - 1 have their ends, in es, at nodes; of these there are n, the root among them; a sheet
---                              can have so many of both
---   MapSized map n m           the map has the bytes of a map for m links, which a sheet can have, and one of the n nodes is the root
---   MapCounted map n m es      so has a map for known links, with as many ones as a tree of n nodes has members
---   TreesAhead s p n m es      p is a position of s, where tree records for known links may stand
---   TreeRead s p n m es r      r says what the record at p is read as, for every network that es holds
---   TreesRead s p n m k es r   r says the same of k records from p on
+--   PositionFits at links tree   the record of this tree, of records for so many links from position `at` on, stands at a number of eight
+--                                bytes
+--   RecordWhole s p m            a whole tree record, for m links, stands at p
+--   LinksKnown n m es            the links 0, .., m - 1 have their ends, in es, at nodes; of these there are n, the root among them; a sheet
+--                                can have so many of both
+--   MapSized map n m             the map has the bytes of a map for m links, which a sheet can have, and one of the n nodes is the root
+--   MapCounted map n m es        so has a map for known links, with as many ones as a tree of n nodes has members
+--   TreesAhead s p n m es        p is a position of s, where tree records for known links may stand
+--   TreeRead s p n m es r        r says what the record at p is read as, for every network that es holds
+--   TreesRead s p n m k es r     r says the same of k records from p on
 use Prim.Native.Nat.{ℕ, _+_, _-_, _≤_, _<_}
 use mathlib.Core.Path.{_≡_}
 use mathlib.Core.List.{List, []}

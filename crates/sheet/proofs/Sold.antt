@@ -17,7 +17,7 @@ use Rattle.cuts.specs.Candidate.{alike, fewerNodes}
 use Rattle.cuts.specs.Bound.{shares, Packed, longestRun}
 use Rattle.cuts.proofs.FlagLaws.{truth}
 use Rattle.cuts.proofs.LimitLaws.{side-fits, shares-fit}
-use Rattle.cuts.proofs.Sold.{answer-before, ranks-agree}
+use Rattle.cuts.proofs.Sold.{answer-before, keys-agree}
 use Rattle.sheet.specs.Bytes.{Bytes, ByteSized, bytesOf, fieldBytes}
 use Rattle.sheet.specs.Reading.{accepted, refused, numberOf}
 use Rattle.sheet.specs.Sheet.{base, wide, tolerant, trunked, current, decode}
@@ -137,5 +137,5 @@ pub report-reordered : (net : Network) → Sound net → (old : Bytes) → let n
     (take 1 new ≡ take 1 older) × (drop 8 new ≡ drop 8 older)
 unfolding reportBytes fieldBytes
 report-reordered net v old =
-    let same = ranks-agree net v longestRun fewerNodes alike in
+    let same = keys-agree net v longestRun fewerNodes alike in
     (ap (bytesOf 1) (same .2), ap₂ (λ (w f : ℕ). fieldBytes (8 ∷ 8 ∷ []) (w ∷ f ∷ []) ++ drop 24 old) (same .0) (same .1))
