@@ -2,7 +2,7 @@
 --   wordBits             the bits of a word
 --   wordBit w k          bit k of the word w is set
 --   bitOf words q        bit q of a list of words is set: bit q mod 64 of word q / 64; past the last word none is
---   WordsAhead words q e the words have a word in front of e, and q is no later than e
+--   WordsAhead words q e all words in front of word e are there, and q is no later than e
 --   NextWord words q e r r is the first word from q on that is not 0, or e where there is none in front of e
 --   BitsAhead words q e  the words have a bit in front of e, and q is no later than e
 --   NextBit words q e r  r is the first from q on whose bit is set, or e where there is none in front of e

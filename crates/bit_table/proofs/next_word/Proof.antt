@@ -1,7 +1,7 @@
 -- `bit_table::next_word` meets its contract. The loop's invariant: every word from `from` to w is 0.
 -- Assumes nothing.
 use Prim.Native.Nat.{ℕ, _-_, _≤_, _<_}
-use mathlib.Core.Path.{_≡_, subst, sym}
+use mathlib.Core.Path.{_≡_, subst}
 use native.Mathlib.Decide.{decLt}
 use native.Mathlib.Omega.{arith}
 use Rattle.arrays.specs.Lists.{entry}
@@ -36,7 +36,6 @@ loop-less c = omega arith
 
 loop-again : tie.Need-loop-again Inv-loop μ-loop
 loop-again c =
-    let s = c .before .before .before .before in
     let l = c .before .before .before .loop in
     (omega arith, omega arith, λ i b d. go i b (omega arith) (decLt i (l .w)))
   where
