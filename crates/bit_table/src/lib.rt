@@ -1,4 +1,6 @@
 // Bits in words of 64: bit q is bit q mod 64 of word q / 64.
+#![tactic(auto)]
+
 ghost use Rattle.std.specs.Prelude.{◌≡◌, ◌||◌, ℕ, ◌*◌, ◌<◌, length, eqb};
 ghost use Rattle.std.specs.Bool.{xor};
 ghost use Rattle.bit_table.specs.Bits.{word_bits, bit_of, WordsAhead, NextWord, BitsAhead, NextBit};

@@ -1,4 +1,6 @@
 // The list of a sheet: reads it, searches it, counts the sides of its list, and writes them where the area can hold them all.
+#![tactic(auto)]
+
 ghost use Rattle.std.specs.Prelude.{[]};
 ghost use Rattle.sheet.specs.Sheet.{current};
 ghost use Rattle.listing.specs.ListArea.{fitting, list_reading};

@@ -1,4 +1,6 @@
 // The pair sheet: reads a sheet, and writes the weights of all pairs of one tree's links where the area can hold them all.
+#![tactic(auto)]
+
 ghost use Rattle.std.specs.Prelude.{◌≡◌, [], ◌-◌};
 ghost use Rattle.cuts.specs.Network.{tree_at};
 ghost use Rattle.sheet.specs.Sheet.{current};

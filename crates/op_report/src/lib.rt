@@ -1,4 +1,6 @@
 // The report of a sheet: reads it, works out its answer and writes both areas.
+#![tactic(auto)]
+
 ghost use Rattle.std.specs.Prelude.{◌≡◌};
 ghost use Rattle.sheet.specs.Sheet.{current};
 ghost use Rattle.sheet.specs.Areas.{second_link};

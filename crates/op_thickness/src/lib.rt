@@ -1,4 +1,6 @@
 // How thick a cable must be: reads a sheet, and searches it with the link's weight at 0 and, where that does not decide, at the largest.
+#![tactic(auto)]
+
 ghost use Rattle.std.specs.Prelude.{[]};
 ghost use Rattle.sheet.specs.Sheet.{current};
 ghost use Rattle.arrays.specs.Links.{LinkArrays};

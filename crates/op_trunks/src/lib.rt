@@ -1,4 +1,6 @@
 // The cable crew's reader: the trunk number of each link of a sheet.
+#![tactic(auto)]
+
 ghost use Rattle.sheet.specs.Sheet.{current};
 ghost use Rattle.op_trunks.specs.TrunksRead.{TrunksRead};
 

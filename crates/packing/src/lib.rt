@@ -1,4 +1,6 @@
 // The packing bound: which trees count, the load that they put on each link, and the floor and the verdict that follow.
+#![tactic(auto)]
+
 ghost use Rattle.std.specs.Prelude.{◌≡◌, ◌*◌, ◌≤◌, min, drop};
 ghost use Rattle.cuts.specs.Sums.{any_to};
 ghost use Rattle.cuts.specs.Network.{Network};

@@ -1,4 +1,6 @@
 // The weights of all pairs of one tree's links, each written at the slot of its two ranks.
+#![tactic(auto)]
+
 ghost use Rattle.std.specs.Prelude.{◌≡◌, List, ℕ};
 ghost use Rattle.cuts.specs.Network.{Network, Tree};
 ghost use Rattle.arrays.specs.ByNode.{Degrees};

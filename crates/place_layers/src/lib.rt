@@ -1,4 +1,6 @@
 // Layers of bits by the places of a tree: layer p is for the place p, and the last layer for the place behind the last.
+#![tactic(auto)]
+
 ghost use Rattle.std.specs.Prelude.{◌≡◌};
 ghost use Rattle.place_layers.specs.Layers.{Summable, LayersSummed, WordThere, odd_word};
 

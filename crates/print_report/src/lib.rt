@@ -1,4 +1,6 @@
 // What the report program prints for a sheet, as bytes.
+#![tactic(auto)]
+
 ghost use Rattle.std.specs.Prelude.{◌≡◌, [], ◌∷◌, map, ℕ, ◌+◌, ◌≤◌, length};
 ghost use Rattle.cuts.specs.Sums.{select};
 ghost use Rattle.cuts.specs.Limits.{most_nodes};

@@ -1,4 +1,6 @@
 // What the program `rows` prints, as bytes: where the rows of a pair sheet start, from the formula.
+#![tactic(auto)]
+
 ghost use Rattle.std.specs.Prelude.{◌≡◌, ◌≤◌, length};
 ghost use Rattle.pairs.specs.Slots.{row_start};
 ghost use Rattle.print_text.specs.Line.{PutIn, in_room};

@@ -1,5 +1,7 @@
 // Words and decimal numbers, one behind the other in a buffer, and the line of a refusal. Each function answers the position behind what
 // it wrote.
+#![tactic(auto)]
+
 ghost use Rattle.std.specs.Prelude.{[], ◌∷◌, ◌+◌, ◌≤◌, length};
 ghost use Rattle.print_text.specs.Decimal.{decimal};
 ghost use Rattle.print_text.specs.Line.{space, refused_line, Put, PutIn};

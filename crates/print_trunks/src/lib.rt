@@ -1,4 +1,6 @@
 // What the program `trunks` prints for a sheet, as bytes.
+#![tactic(auto)]
+
 ghost use Rattle.std.specs.Prelude.{◌≡◌, ◌≤◌, length, take};
 ghost use Rattle.cuts.specs.Limits.{most_links};
 ghost use Rattle.sheet.specs.Sheet.{current};

@@ -1,4 +1,6 @@
 // Reads the header of a sheet: how many nodes, links and trees there are.
+#![tactic(auto)]
+
 ghost use Rattle.std.specs.Prelude.{◌≡◌};
 ghost use Rattle.sheet.specs.Reading.{first_failing};
 ghost use Rattle.sheet.specs.Sheet.{count_checks, header_record};
@@ -8,7 +10,7 @@ use format::limits::*;
 use format::numbers::two;
 use format::refusals;
 
-#[derive(Drop)]
+#[derive(Clone, Copy)]
 pub struct Counts {
     pub nodes: usize,
     pub links: usize,

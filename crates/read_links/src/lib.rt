@@ -1,5 +1,7 @@
 // Link records: a map byte, then the fields whose bits are set; the others are inherited from the link before. Behind the ends and the
 // weight may stand a trunk number, which a reader of the network steps over.
+#![tactic(auto)]
+
 pub mod trunks; // trunk numbers
 
 ghost use Rattle.std.specs.Prelude.{◌≡◌, cond, ◌+◌, ◌*◌, ◌≤◌, eqb, length, drop};
@@ -15,7 +17,7 @@ use format::{Step, refusals};
 // The three lowest bits of link 0's map byte: both ends and the weight are there.
 const ENDS_AND_WEIGHT: u8 = 7;
 
-#[derive(Drop)]
+#[derive(Clone, Copy)]
 pub struct Link {
     pub first: usize,
     pub second: usize,

@@ -1,4 +1,6 @@
 // Reads a serialised network whole: header, links, trees, and nothing behind them.
+#![tactic(auto)]
+
 pub mod tree_records; // tree records
 
 ghost use Rattle.std.specs.Prelude.{drop};

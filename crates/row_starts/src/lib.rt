@@ -1,4 +1,6 @@
 // Where the rows of a pair sheet start.
+#![tactic(auto)]
+
 ghost use Rattle.std.specs.Prelude.{◌≡◌, ◌<◌};
 ghost use Rattle.pairs.specs.Slots.{row_start, row_starts};
 

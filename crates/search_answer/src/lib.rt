@@ -1,4 +1,6 @@
 // The answer of a sheet that was read, as a value: the first candidate of its trees, the floor and the verdict.
+#![tactic(auto)]
+
 ghost use Rattle.cuts.specs.Answer.{answer};
 ghost use Rattle.sheet.specs.Sheet.{current};
 ghost use Rattle.arrays.specs.Records.{network_at, SheetHeld};

@@ -1,5 +1,7 @@
 // Chooses between candidates in any order of visits: by weight, number of nodes in the side, tree, first link, one link before two, and
 // second link. These decide between any two candidates of a network, so that it does not matter in which order they are visited.
+#![tactic(auto)]
+
 ghost use Rattle.std.specs.Prelude.{◌≡◌};
 ghost use Rattle.cuts.specs.Candidate.{fewer_nodes, ahead};
 ghost use Rattle.search_order.specs.Choice.{rest, comes_first, chosen, Says, said, Paired, unfound};
@@ -8,7 +10,7 @@ ghost use Rattle.search_order.specs.Choice.{rest, comes_first, chosen, Says, sai
 pub const NO_WEIGHT: u64 = 18446744073709551615;
 
 // A candidate: the tree, its one or two links, which are equal where there is one, the weight and the number of nodes in the side.
-#[derive(Drop)]
+#[derive(Clone, Copy)]
 pub struct Found {
     pub tree: u8,
     pub first: u16,

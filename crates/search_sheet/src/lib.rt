@@ -1,4 +1,6 @@
 // Searches all trees of a sheet that was read, each grown and placed from its record, and makes the side of what is found.
+#![tactic(auto)]
+
 ghost use Rattle.cuts.specs.Candidate.{fewer_nodes};
 ghost use Rattle.cuts.specs.Answer.{reported};
 ghost use Rattle.sheet.specs.Sheet.{current};

@@ -1,4 +1,6 @@
 // Marks the candidates of one tree that weigh no more than a limit, all of them, in a table of bits, by the ranks of their links.
+#![tactic(auto)]
+
 ghost use Rattle.std.specs.Prelude.{◌≡◌, List, ℕ, ◌+◌, leb};
 ghost use Rattle.cuts.specs.Network.{Network, Tree};
 ghost use Rattle.cuts.specs.Candidate.{weight_of};

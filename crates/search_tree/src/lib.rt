@@ -1,4 +1,6 @@
 // Searches the candidates of one tree by rows: from the last place down, the link at each place alone, then with each one behind it.
+#![tactic(auto)]
+
 ghost use Rattle.std.specs.Prelude.{◌≡◌, List, ℕ, ◌+◌, ◌<◌};
 ghost use Rattle.cuts.specs.First.{first_from};
 ghost use Rattle.cuts.specs.Network.{Network, Tree};

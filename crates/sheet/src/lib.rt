@@ -1,1 +1,2 @@
 // The serialised network: specs/ says what its bytes give.
+#![tactic(auto)]

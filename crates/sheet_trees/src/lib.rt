@@ -1,4 +1,6 @@
 // The trees of a sheet that was read, each made from its record: its link map, its places and its ranks.
+#![tactic(auto)]
+
 ghost use Rattle.std.specs.Prelude.{◌≡◌};
 ghost use Rattle.arrays.specs.Records.{record_of, map_at};
 ghost use Rattle.sheet_trees.specs.Trees.{RecordThere, TreeListed, TreePlaced, TreeRanked};

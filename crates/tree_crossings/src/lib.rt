@@ -1,4 +1,6 @@
 // The sides of one tree that cross at most two members of another, struck out of a table of its cells.
+#![tactic(auto)]
+
 ghost use Rattle.std.specs.Prelude.{◌≡◌, Bool, ◌&&◌, not, ◌+◌, ◌≤◌, min, leb};
 ghost use Rattle.cuts.specs.Sums.{count_to, table as flagTable};
 ghost use Rattle.cuts.specs.Network.{Network, Tree, link_count};

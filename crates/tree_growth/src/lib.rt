@@ -1,6 +1,8 @@
 // Grows a tree from the root, node 0, in time linear in its nodes and members: each node's members are looked at once, when its turn in
 // the order comes. The tree may be any choice of links; the answer says whether they join all nodes.
 // The ends of link k stand in firsts[k] and seconds[k].
+#![tactic(auto)]
+
 ghost use Rattle.cuts.specs.Network.{Network, Tree};
 ghost use Rattle.cuts.specs.Candidate.{member_links};
 ghost use Rattle.arrays.specs.Links.{Held};

@@ -2,6 +2,8 @@
 // the heaviest child's first. Which nodes lie below a link is then an interval of places, worked out once for each tree.
 // An order that fits no tree does no harm: places and stops then say nothing, and stay within MOST_NODES.
 // Cost: a few steps for each node.
+#![tactic(auto)]
+
 ghost use Rattle.std.specs.Prelude.{◌≡◌, List, ℕ, ◌+◌, ◌%◌, ◌≤◌, ◌<◌, length};
 ghost use Rattle.cuts.specs.Network.{Network, Tree};
 ghost use Rattle.cuts.specs.Limits.{most_nodes};
@@ -21,7 +23,7 @@ const STOP_NUMBERS: u32 = MOST_NODES as u32 + 1;
 
 // A tree by its places: the place of each node and, by place, the node, its stop, which is the first place behind its subtree, and its
 // parent link.
-#[derive(Drop)]
+#[derive(Clone, Copy)]
 pub struct Places {
     pub place: [u8; MOST_NODES],
     pub node: [u8; MOST_NODES],

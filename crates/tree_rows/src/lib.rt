@@ -7,6 +7,8 @@
 // 2,048 bytes apart, processors take the next tally for the sum just stored, and wait.
 // The sums are written as ones that may wrap, since the arrays alone do not say how large they are; of every network with at most 2,048
 // links of weights below 2^32 they stay below 2^45, and none wraps.
+#![tactic(auto)]
+
 ghost use Rattle.std.specs.Prelude.{◌≡◌, ℕ, suc, ◌<◌, ◌≤◌, List, length, replicate, slice_set};
 ghost use Rattle.cuts.specs.Network.{Network, Tree};
 ghost use Rattle.cuts.specs.Candidate.{weight_of};

@@ -1,4 +1,6 @@
 // A side as words of bits, one a node, and its number of nodes, made from the places of a tree.
+#![tactic(auto)]
+
 pub mod counts; // the number of nodes
 
 ghost use Rattle.std.specs.Prelude.{◌≡◌, ◌≤◌};

@@ -1,4 +1,6 @@
 // Writes sides and a report to the areas of a caller.
+#![tactic(auto)]
+
 ghost use Rattle.std.specs.Prelude.{◌≡◌, suc, ◌*◌, ◌≤◌, length};
 ghost use Rattle.cuts.specs.Cut.{Side};
 ghost use Rattle.sheet.specs.Bytes.{field_bytes};
