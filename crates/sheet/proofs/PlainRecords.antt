@@ -18,7 +18,7 @@ use Rattle.cuts.specs.Network.{Link}
 use Rattle.cuts.proofs.FlagLaws.{truth}
 use Rattle.cuts.proofs.SumLaws.{sum_congr, sum_less}
 use Rattle.sheet.specs.Bytes.{Bytes, number, bit}
-use Rattle.sheet.specs.Reading.{check, first_failing, Reading, accepted, refused, number_of, unless}
+use Rattle.sheet.specs.Reading.{first_failing, Reading, accepted, refused, number_of, unless}
 use Rattle.sheet.specs.Sheet.{Format, tolerant, trunked, field_start, record_length, field, link_in, wrong_map, shape_checks, value_checks, link_record}
 use Rattle.sheet.proofs.Plain.{unmarked}
 use Rattle.sheet.proofs.Longest.{number-front, drop-front}
