@@ -14,7 +14,7 @@ use Rattle.arrays.specs.Lists.{entry}
 use Rattle.arrays.specs.Order.{Ordered}
 use Rattle.arrays.proofs.OrderLaws.{Spot, spot, parent_in}
 use Rattle.tree_places.specs.Places.{Rooted, Child, Sized, Heaviest, Preorder, HeavyFirst, HeavyPreorder}
-use Rattle.tree_places.specs.Passes.{child, shift, Placing}
+use Rattle.tree_places.specs.Passes.{shift, Placing}
 use Rattle.tree_places.proofs.ShiftLaws.{shift-inside, shift-apart}
 use Rattle.tree_places.proofs.PreorderLaws.{Apart, nesting_preorder}
 

@@ -1,3 +1,4 @@
+pub mod SelectLaws
 pub mod PlaceLaws
 pub mod RankLaws
 pub mod MemberLaws
