@@ -10,7 +10,7 @@ use lib.ListN.{length, get_or, set, drop, length-append, length-drop}
 use lib.Seq.{length-take-le, length_front, set_at, drop-drop, drop-cons}
 use lib.Dec.{eqb}
 use Rattle.cuts.specs.Network.{Link, no_link}
-use Rattle.sheet.specs.Bytes.{Bytes, ByteSized, number}
+use Rattle.sheet.specs.Bytes.{Bytes, ByteSized}
 use Rattle.sheet.specs.Reading.{accepted, records}
 use Rattle.sheet.specs.Sheet.{Format, record_length, field, next_link}
 use Rattle.sheet.specs.Areas.{written}

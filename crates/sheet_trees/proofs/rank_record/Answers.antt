@@ -5,21 +5,16 @@ use Prim.Native.Nat.{ℕ}
 use mathlib.Core.Path.{refl, sym, subst}
 use mathlib.Core.List.{List}
 use native.Mathlib.Omega.{arith}
-use borrow.Author.Rules.{rules}
 use Rattle.cuts.specs.Limits.{most_nodes}
 use Rattle.arrays.specs.Lists.{Within}
 use Rattle.tree_places.specs.Places.{StopsKnown}
 use Rattle.read_sheet.proofs.NetworkLaws.{network_at-links, links_known}
-use Rattle.sheet_trees.proofs.rank_record.Statement.{statement}
-use Rattle.sheet_trees.proofs.rank_record.Tie as tie
+use Rattle.sheet_trees.proofs.rank_record.Goals as goal
 
-place-record-requires : tie.Need-place-record-requires
-place-record-requires c κs = search rules
-
-rank-places-requires : tie.Need-rank-places-requires
-rank-places-requires c κs =
-    let p = c.before.before.requires in
-    let k = c.place-record.ensures.kept p.weights p.held in
+pub rank_places-requires : goal.rank_places-requires
+rank_places-requires c =
+    let p = c.requires in
+    let k = c.place_record-p.ensures.kept p.weights p.held in
     let l = links_known p.held in
     record {
       few_nodes = l.few_nodes;
@@ -27,16 +22,13 @@ rank-places-requires c κs =
       is_link = λ q z b. let m = (k.links-at.member q z b).is_link in omega (arith, network_at-links p.held);
     }
 
-returns : tie.Need-returns
+pub returns : goal.returns
 returns c =
-    let a = c.before.before.before.args in
-    let placed = c.before.place-record.ensures in
-    let r = c.rank-places.ensures in
+    let a = c.args in
+    let placed = c.place_record-p.ensures in
+    let r = c.rank_places.ensures in
     record {
       nodes_known = subst (λ (l : List ℕ). Within l most_nodes a.l.nodes) (sym r.same_node) placed.nodes_known;
       stops_known = subst StopsKnown (sym r.same_stops) placed.stops_known;
       ranked = λ ws h. r.ranked _ _ (placed.kept ws h) refl (network_at-links h);
     }
-
-pub rank-record-spec : {M : Type 1} → statement M
-rank-record-spec = tie.close (tie.spec place-record-requires rank-places-requires returns)
