@@ -1,0 +1,27 @@
+-- `op_corners::corner_network` meets its contract, by what both maps give. Assumes nothing.
+use mathlib.Core.Path.{sym, ◌∙◌}
+use Rattle.cuts.specs.Network.{Network}
+use Rattle.op_corners.specs.Tables.{bare_network}
+use Rattle.op_corners.proofs.LeftLaws.{first-refused, second-refused, both-given}
+use Rattle.op_corners.proofs.corner_network.Goals as goal
+use Rattle.op_corners.proofs.corner_network.Goals.{After-no_side, then-no_side-via-else-no_side+then-no_side-2, then-no_side-via-then-no_side}
+
+-- the network that was read
+abbrev net : After-no_side → Network
+net c = let a = c.args in bare_network a.l a.ends.now a.weights.now
+
+pub returns-then-no_side : goal.returns-then-no_side
+returns-then-no_side c =
+    let a = c.args in
+    let n = net (goal.at.returns-then-no_side c).After-no_side in
+    elim c.then-no_side.branch [
+      | then-no_side-via-then-no_side w ↦ first-refused a.first.now a.second.now n (sym c.no_side.ensures ∙ w.if-no_side.true)
+      | then-no_side-via-else-no_side+then-no_side-2 w ↦
+          second-refused a.first.now a.second.now n (sym c.no_side.ensures ∙ w.if-no_side.false) (sym w.no_side-else-no_side.ensures ∙ w.if-no_side-2.true)
+    ]
+
+pub returns : goal.returns
+returns c =
+    let a = c.args in
+    both-given a.first.now a.second.now (net (goal.at.returns c).After-no_side) c.corner_table.ensures
+    (sym c.no_side.ensures ∙ c.if-no_side.false) (sym c.no_side-else-no_side.ensures ∙ c.if-no_side-2.false) c.rows_joined.result c.rows_joined.ensures

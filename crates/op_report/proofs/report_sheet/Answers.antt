@@ -1,0 +1,8 @@
+-- `op_report::report_sheet` meets its contract: what the sheet's reading says decides; a network that was read is accepted, and its answer
+-- is written. Assumes nothing.
+use Rattle.read_sheet.proofs.NetworkLaws.{sheet-held}
+use Rattle.op_report.proofs.report_sheet.Goals as goal
+
+pub write_answer-requires : goal.write_answer-requires
+write_answer-requires c =
+    record { room = c.requires.room; held = sheet-held c.read_sheet.ensures c.in-Read.is }
