@@ -12,7 +12,7 @@ use Rattle.cuts.specs.Cut.{Side}
 use Rattle.cuts.specs.Answer.{Answer, reported, answer}
 use Rattle.cuts.proofs.SumLaws.{table_at}
 use Rattle.cuts.proofs.Handles.{select_congr}
-use Rattle.sheet.specs.Bytes.{Bytes, number, fields, map_bit}
+use Rattle.sheet.specs.Bytes.{Bytes, fields, map_bit}
 use Rattle.sheet.specs.Reading.{Reading, accepted, refused, number_of}
 use Rattle.sheet.specs.Sheet.{Format, decode}
 use Rattle.sheet.specs.Areas.{side_bytes, report_widths, report_length, side_after, report_after, side_read, answer_of, answer_read, side_left, report_left}
