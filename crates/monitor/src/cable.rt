@@ -7,8 +7,7 @@ use op_thickness::sheet_thickness;
 
 // Reads a sheet, writes the smallest weight of a link with which the reported weight is no less than wanted, and returns 0; or returns the
 // number of the first refusal and writes 0.
-#[unsafe(no_mangle)]
-pub extern "C" fn wcut_thickness(sheet: &[u8], link: u32, wanted: u64, thickness: &mut u32) -> u32
+pub fn wcut_thickness(sheet: &[u8], link: u32, wanted: u64, thickness: &mut u32) -> u32
     ensures { ThicknessTold current sheet.now link wanted thickness.new result }
 {
     let mut ends = [[0u8; MOST_LINKS]; 2];

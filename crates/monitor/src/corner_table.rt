@@ -7,13 +7,7 @@ use op_corners::corner_sheet;
 
 // Reads a sheet, writes the weights between the four corners of the two sides that the maps give to the table, four rows of four one behind
 // the other, and returns 0; or returns the number of the first refusal and writes zeros.
-#[unsafe(no_mangle)]
-pub extern "C" fn wcut_corners(
-    sheet: &[u8],
-    first: &[u8],
-    second: &[u8],
-    table: &mut [u64; 16],
-) -> u32
+pub fn wcut_corners(sheet: &[u8], first: &[u8], second: &[u8], table: &mut [u64; 16]) -> u32
     ensures { CornersTold current sheet.now first.now second.now
         (table_read table.new) result }
 {

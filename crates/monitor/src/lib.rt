@@ -1,4 +1,6 @@
 // The entries that firmware calls, a module for each.
+#![tactic(auto)]
+
 pub mod cable; // wcut_thickness
 pub mod corner_table; // wcut_corners
 pub mod list; // wcut_list

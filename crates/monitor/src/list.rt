@@ -7,8 +7,7 @@ use op_list::list_sheet;
 
 // Reads a sheet, writes every lightest cut that its trees show to the area, 32 bytes a side, and their number, and returns 0; or returns
 // the number of the first refusal, writes 0 for the number of sides and leaves the area as it was.
-#[unsafe(no_mangle)]
-pub extern "C" fn wcut_list(sheet: &[u8], sides: &mut [u8], count: &mut u32) -> u32
+pub fn wcut_list(sheet: &[u8], sides: &mut [u8], count: &mut u32) -> u32
     ensures { SidesListed current sheet.now
         sides.old sides.new count.new result }
 {

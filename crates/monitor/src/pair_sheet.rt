@@ -7,8 +7,7 @@ use op_pairs::pair_sheet;
 
 // Reads a sheet, writes the weight of each pair of the tree's links to the area, for the ranks s below r at slot r(r - 1)/2 + s, and returns
 // 0; or returns the number of the first refusal and leaves the area as it was.
-#[unsafe(no_mangle)]
-pub extern "C" fn wcut_pairs(sheet: &[u8], tree: u32, weights: &mut [u64]) -> u32
+pub fn wcut_pairs(sheet: &[u8], tree: u32, weights: &mut [u64]) -> u32
     ensures { PairsWritten current sheet.now tree
         weights.old weights.new result }
 {

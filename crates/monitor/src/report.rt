@@ -8,8 +8,7 @@ use op_report::report_sheet;
 
 // Reads a sheet, writes the lightest cut that its trees show to the side area and the report area, and returns 0; or returns the
 // number of the first refusal and leaves both areas as they were.
-#[unsafe(no_mangle)]
-pub extern "C" fn wcut_report(sheet: &[u8], side: &mut [u8], report: &mut [u8]) -> u32
+pub fn wcut_report(sheet: &[u8], side: &mut [u8], report: &mut [u8]) -> u32
     ensures { Reported current sheet.now
         side.old report.old side.new report.new result }
 {
