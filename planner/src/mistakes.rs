@@ -158,6 +158,21 @@ mod tests {
     use super::*;
 
     #[test]
+    fn refusal_numbers_are_1_to_16_and_18_to_21() {
+        assert_eq!(meaning(0), None);
+        assert_eq!(meaning(1), Some("the side area, or a side map, has fewer than 32 bytes"));
+        assert_eq!(meaning(8), Some("a map byte exceeds 15, or link 0's map byte is neither 7 nor 15"));
+        assert_eq!(meaning(15), Some("the member links do not join every node to node 0"));
+        assert_eq!(meaning(16), Some("bytes follow the last tree"));
+        assert_eq!([17, 22, u32::MAX].map(meaning), [None; 3]);
+        assert_eq!(meaning(18), Some("a link number is not below the link count"));
+        assert_eq!(meaning(19), Some("the area cannot hold every side of the list, at 32 bytes a side"));
+        let out_of_reach = "no 4-byte weight of the link makes the reported weight as large as wanted";
+        assert_eq!(meaning(20), Some(out_of_reach));
+        assert_eq!(meaning(21), Some("a side map is empty, has node 0, or has a bit set from the node count up"));
+    }
+
+    #[test]
     fn refusal_numbers_are_1_to_16_18_to_21_23_and_24() {
         assert_eq!(meaning(0), None);
         assert_eq!(meaning(1), Some("the side area, or a side map, has fewer than 32 bytes"));

@@ -9,7 +9,7 @@ use std::process::Stdio;
 
 /// Node 1 and node 2 are two lightest cuts.
 const TEXT: &[u8] = b"nodes 3\nlink 0-1:3\nlink 1-2:2\nlink 0-2:3\ntree share 2 links 0 2\n";
-const FROM_INPUT: [&[&str]; 12] = [
+const FROM_INPUT: [&[&str]; 10] = [
     &["sheet"],
     &["fit"],
     &["report"],
@@ -17,8 +17,6 @@ const FROM_INPUT: [&[&str]; 12] = [
     &["overlap", "-", "1", "2"],
     &["thickness", "-", "1", "6"],
     &["thickness", "--json", "-", "1", "7"],
-    &["pairs", "-", "0"],
-    &["pairs", "--json", "-", "0"],
     &["picture"],
     &["dot"],
     &["export"],

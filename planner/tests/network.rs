@@ -9,7 +9,8 @@ use std::process::Command;
 
 /// Document 01's case A.
 const TRIANGLE: &str = "# A triangle\nnodes 3\nlink 0-1:3\nlink 1-2:2\nlink 0-2:4\ntree share 2 links 0 2\n";
-const SUBCOMMANDS: &str = "import fit report list overlap thickness pairs picture dot append export sheet text";
+const SUBCOMMANDS: [&str; 12] =
+    ["import", "fit", "report", "list", "overlap", "thickness", "picture", "dot", "append", "export", "sheet", "text"];
 
 /// A program that takes its standard input and prints the given lines, or ends with a status. A shell writes it, so that no
 /// process of this test has it open when it is run.
@@ -35,7 +36,7 @@ fn help_is_printed_with_status_0() {
     let (status, all, errors) = network(&["--help"], b"");
     assert_eq!((status, errors.as_str()), (Some(0), ""));
     let all = String::from_utf8(all).expect("text");
-    for subcommand in SUBCOMMANDS.split(' ') {
+    for subcommand in SUBCOMMANDS {
         let (status, one, errors) = network(&[subcommand, "--help"], b"");
         let one = String::from_utf8(one).expect("text");
         assert_eq!((status, errors.as_str()), (Some(0), ""));
@@ -46,8 +47,18 @@ fn help_is_printed_with_status_0() {
 }
 
 #[test]
+fn help_of_pairs_is_printed_with_status_0() {
+    let [(_, all, _), (status, one, errors)] = [&["--help"][..], &["pairs", "--help"]].map(|help| network(help, b""));
+    let [all, one] = [all, one].map(|help| String::from_utf8(help).expect("text"));
+    assert_eq!((status, errors.as_str()), (Some(0), ""));
+    assert!(one.starts_with("network pairs "), "{one}");
+    let (usage, _) = one.split_once("\n\n").expect("notes");
+    assert!(all.contains(usage), "{usage}");
+}
+
+#[test]
 fn arguments_that_mean_nothing_are_errors() {
-    let bad: [&[&str]; 34] = [
+    let bad: [&[&str]; 28] = [
         &[],
         &["sheets"],
         &["-h"],
@@ -72,16 +83,27 @@ fn arguments_that_mean_nothing_are_errors() {
         &["thickness", "a.net", "1", "2", "3"],
         &["thickness", "a.net", "1", "-2"],
         &["thickness", "--json=yes", "a.net", "1", "2"],
+        &["append"],
+        &["append", "a.net", "1", "2"],
+        &["append", "a.net", "1", "2", "3", "4", "5"],
+        &["dot", "--ties", "--json"],
+    ];
+    for arguments in bad {
+        let (status, printed, errors) = network(arguments, TRIANGLE.as_bytes());
+        assert_eq!((status, printed.len()), (Some(1), 0), "{arguments:?}");
+        assert!(errors.starts_with("network"), "{errors}");
+    }
+}
+
+#[test]
+fn arguments_of_pairs_that_mean_nothing_are_errors() {
+    let bad: [&[&str]; 6] = [
         &["pairs"],
         &["pairs", "a.net"],
         &["pairs", "--json", "0"],
         &["pairs", "a.net", "0", "1"],
         &["pairs", "a.net", "-1"],
         &["pairs", "--ties", "a.net", "0"],
-        &["append"],
-        &["append", "a.net", "1", "2"],
-        &["append", "a.net", "1", "2", "3", "4", "5"],
-        &["dot", "--ties", "--json"],
     ];
     for arguments in bad {
         let (status, printed, errors) = network(arguments, TRIANGLE.as_bytes());
@@ -125,8 +147,8 @@ fn trunk_numbers_become_bytes_and_text_again() {
 
 #[test]
 fn a_missing_file_is_an_error() {
-    let takes_more = ["append", "overlap", "thickness", "pairs"];
-    for subcommand in SUBCOMMANDS.split(' ').filter(|subcommand| !takes_more.contains(subcommand)) {
+    let takes_more = ["append", "overlap", "thickness"];
+    for subcommand in SUBCOMMANDS.iter().filter(|subcommand| !takes_more.contains(subcommand)) {
         let (status, printed, errors) = network(&[subcommand, "missing.net"], b"");
         assert_eq!((status, printed.len()), (Some(1), 0));
         assert!(errors.starts_with("missing.net: "), "{errors}");

@@ -3,11 +3,12 @@
 mod command;
 mod written;
 
-use command::{accepted_examples, assert_needs_a_list, assert_on_page, example, network, printed};
+use command::{accepted_examples, assert_needs_a_list, example, network, printed};
 use planner::text;
 use reference::list;
 use written::{links, names, node_list, Written};
 
+const PAGE: &str = include_str!("../../docs/REPORT.md");
 const CORNERS: [&str; 4] = ["both", "first only", "second only", "neither"];
 const RING: &str = "nodes 4\nlink 0-1:1\nlink 1-2:1\nlink 2-3:1\nlink 3-0:1\ntree share 1 links 0 1 2\n";
 
@@ -237,7 +238,7 @@ fn numbers_that_are_none_of_a_cut_are_errors() {
 
 #[test]
 fn a_network_without_a_list_has_no_overlap() {
-    assert_needs_a_list("overlap", &["1", "2"]);
+    assert_needs_a_list("overlap", ["1", "2"]);
 }
 
 /// docs/REPORT.md shows all that is printed for two cuts of the ring, and the corners of two others.
@@ -247,6 +248,8 @@ fn the_page_shows_what_is_printed() {
     let (overlapping, inside) =
         (printed(&["overlap", &ring, "4", "5"], ""), printed(&["overlap", &ring, "1", "4"], ""));
     let corners: Vec<&str> = inside.lines().skip(4).take(5).collect();
-    assert_on_page(&overlapping);
-    assert_on_page(&corners.join("\n"));
+    for shown in [overlapping.trim_end(), &corners.join("\n")] {
+        let indented = format!("    {}\n", shown.replace('\n', "\n    ")).replace("\n    \n", "\n\n");
+        assert!(PAGE.contains(&format!("\n\n{indented}\n")), "{indented}");
+    }
 }

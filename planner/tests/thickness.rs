@@ -3,17 +3,20 @@
 mod command;
 mod written;
 
-use command::{accepted_examples, assert_needs_a_list, assert_on_page, example, network, printed};
+use command::{accepted_examples, assert_needs_a_list, example, network, printed};
+use planner::names::Names;
 use planner::text;
 use reference::cuts::{self, WHOLE};
+use reference::generate::{self, FEATURES};
 use reference::list;
 use reference::network::Network;
 use reference::random::Random;
-use reference::sheet::MOST_WEIGHT;
+use reference::sheet::{Contents, MOST_WEIGHT};
 use reference::thickness;
 use std::collections::BTreeSet;
-use written::{crossing, ends, links, names, node_list, node_name, random_texts};
+use written::{crossing, ends, links, names, node_list, node_name};
 
+const PAGE: &str = include_str!("../../docs/REPORT.md");
 const TRIANGLE: &str = "nodes 3\nlink 0-1:3\nlink 1-2:2\nlink 0-2:4\ntree share 2 links 0 2\n";
 const SMALLEST: &str = "The smallest weight of this link with which the reported weight is ";
 
@@ -136,7 +139,7 @@ fn a_wanted_weight_is_a_whole_number_of_8_bytes() {
 #[test]
 fn a_refused_network_has_no_thickness() {
     for link in ["0", "1000", "none"] {
-        assert_needs_a_list("thickness", &[link, "1"]);
+        assert_needs_a_list("thickness", [link, "1"]);
     }
 }
 
@@ -282,10 +285,17 @@ fn the_figures_of_the_examples_are_the_smallest() {
 fn the_figures_of_random_networks_are_the_smallest() {
     let mut random = Random::new(20);
     let (mut figures, mut none) = (0, 0);
-    for (network, text) in &random_texts(&mut random, 20, 4) {
-        let held = Held { file: "-", text, network, link: random.below(network.links.len()) };
-        for wanted in held.wanted_weights() {
-            *if held.assert(wanted) { &mut figures } else { &mut none } += 1;
+    for feature in FEATURES {
+        for _ in 0..4 {
+            let size = generate::random_size(&mut random, 2, 20, feature);
+            let network = &generate::network(&mut random, size, feature);
+            let names = Names::none(network.nodes, network.links.len());
+            let text = &text::write(&Contents::without_trunks(network.clone()), &names);
+            let link = random.below(network.links.len());
+            let held = Held { file: "-", text, network, link };
+            for wanted in held.wanted_weights() {
+                *if held.assert(wanted) { &mut figures } else { &mut none } += 1;
+            }
         }
     }
     assert!(figures > 200 && none > 100, "{figures} {none}");
@@ -301,6 +311,7 @@ fn the_page_shows_what_is_printed() {
     let (_, figure) = figure.split_once('\n').expect("two lines");
     let (_, none) = none.split_once('\n').expect("two lines");
     for shown in [&said[0], &said[1], figure, none] {
-        assert_on_page(shown);
+        let indented = format!("    {}\n", shown.trim_end().replace('\n', "\n    "));
+        assert!(PAGE.contains(&format!("\n\n{indented}\n")), "{indented}");
     }
 }

@@ -149,8 +149,8 @@ mod tests {
     use super::*;
     use crate::documented::{self, CASE_A};
     use crate::faults;
-    use crate::generate;
     use crate::generate::questions::{self, EXTREMES};
+    use crate::generate::{self, small_networks};
     use crate::random::Random;
     use crate::sheet;
     use crate::trunks;
@@ -163,7 +163,7 @@ mod tests {
     fn a_link_outside_the_sheet_comes_before_a_weight_out_of_reach() {
         assert_eq!(told(&CASE_A, 2, 5), Ok(3));
         assert_eq!(told(&CASE_A, 2, 6), Err(20));
-        for link in generate::outside(3) {
+        for link in questions::outside(3) {
             for wanted in EXTREMES {
                 assert_eq!(told(&CASE_A, link, wanted), Err(18));
             }
@@ -187,7 +187,7 @@ mod tests {
     #[test]
     fn both_methods_agree_and_keep_what_the_request_says() {
         let mut random = Random::new(14);
-        for network in generate::small_networks(14, 20) {
+        for network in small_networks(14, 20) {
             let shown = ShownSides::of(&network);
             let link = random.below(network.links.len());
             for question in questions::turns(&network, &shown, link) {
@@ -201,7 +201,7 @@ mod tests {
     #[test]
     fn the_present_weight_does_not_matter() {
         let mut random = Random::new(15);
-        for network in generate::small_networks(15, 5) {
+        for network in small_networks(15, 5) {
             let link = random.below(network.links.len());
             let questions = questions::turns(&network, &ShownSides::of(&network), link);
             let of = |network: &Network| {
@@ -218,7 +218,7 @@ mod tests {
     #[test]
     fn trunk_numbers_do_not_matter() {
         let mut random = Random::new(16);
-        for network in generate::small_networks(16, 5) {
+        for network in small_networks(16, 5) {
             let contents = generate::with_trunks(&mut random, network);
             let sheet = sheet::write_contents(&contents);
             let question = questions::any(&mut random, &contents.network, &ShownSides::of(&contents.network));

@@ -419,32 +419,38 @@ fn a_sentence_names_the_nodes_and_links_of_the_cut_and_no_others() {
 /// What every side of a small network says of the second and the third sentence and of the list's head.
 #[test]
 fn what_is_said_of_other_cuts_and_new_cables_holds_for_every_side() {
+    let mut random = Random::new(9);
     let mut said = [0; 3];
-    for network in networks(&mut Random::new(9), 2..=every_side::MOST_NODES, 60) {
-        let sides = list::by_every_side(&network).sides;
-        let Beside { shares, missing, lighter, .. } = every_side::check_list(&network, &sides).expect("a promise kept");
-        let parsed = parsed(network.clone());
-        let findings = reference_findings(&parsed);
-        let [_, others, cable] = &findings.sentences()[..] else { panic!("three sentences") };
-        let head = findings.list_lines().next().unwrap_or_default();
-        let cases = [
-            (head.contains(" The list is complete: "), shares.is_gt() && missing == 0 && lighter == 0),
-            (head.contains(". No cut of the whole network weighs less. "), shares.is_eq() && lighter == 0),
-            (head.contains(". No cut that the listed trees show is lighter, and all of theirs "), shares.is_lt()),
-        ];
-        let found = cases.iter().position(|(starts, _)| *starts).expect("one of three");
-        assert!(cases[found].1, "{head} {network:?}");
-        said[found] += 1;
-        let all = others.contains(" of the whole network ");
-        assert_eq!(all, found == 0, "{others}");
-        let counted = others.split(' ').next().and_then(|word| match word {
-            "No" => Some(0),
-            "One" => Some(1),
-            number => number.parse().ok(),
-        });
-        assert_eq!(counted, Some(sides.len() - 1), "{others}");
-        assert_eq!(cable.contains("the weakest cut of the whole network weighs more than "), all, "{cable}");
-        assert_cables(&findings, all);
+    for feature in FEATURES {
+        for _ in 0..60 {
+            let size = generate::random_size(&mut random, 2, every_side::MOST_NODES, feature);
+            let network = generate::network(&mut random, size, feature);
+            let sides = list::by_every_side(&network).sides;
+            let Beside { shares, missing, lighter, .. } =
+                every_side::check_list(&network, &sides).expect("a promise kept");
+            let parsed = parsed(network.clone());
+            let findings = reference_findings(&parsed);
+            let [_, others, cable] = &findings.sentences()[..] else { panic!("three sentences") };
+            let head = findings.list_lines().next().unwrap_or_default();
+            let cases = [
+                (head.contains(" The list is complete: "), shares.is_gt() && missing == 0 && lighter == 0),
+                (head.contains(". No cut of the whole network weighs less. "), shares.is_eq() && lighter == 0),
+                (head.contains(". No cut that the listed trees show is lighter, and all of theirs "), shares.is_lt()),
+            ];
+            let found = cases.iter().position(|(starts, _)| *starts).expect("one of three");
+            assert!(cases[found].1, "{head} {network:?}");
+            said[found] += 1;
+            let all = others.contains(" of the whole network ");
+            assert_eq!(all, found == 0, "{others}");
+            let counted = others.split(' ').next().and_then(|word| match word {
+                "No" => Some(0),
+                "One" => Some(1),
+                number => number.parse().ok(),
+            });
+            assert_eq!(counted, Some(sides.len() - 1), "{others}");
+            assert_eq!(cable.contains("the weakest cut of the whole network weighs more than "), all, "{cable}");
+            assert_cables(&findings, all);
+        }
     }
     assert!(said.iter().all(|&count| count > 100), "{said:?}");
 }

@@ -56,13 +56,13 @@ pub fn accepted_examples() -> impl Iterator<Item = String> {
 /// Of the files there that have no list, refused networks and a cable list, a subcommand with these operands behind the file says the same
 /// as `list`.
 #[track_caller]
-pub fn assert_needs_a_list(subcommand: &str, operands: &[&str]) {
+pub fn assert_needs_a_list<'a>(subcommand: &'a str, operands: impl AsRef<[&'a str]>) {
     let mut refused = 0;
     for file in examples().filter(|file| file.contains("/refused-") || file.ends_with("plant.csv")) {
         let listed = network(&["list", &file], b"");
         assert_eq!(listed.0, Some(if file.contains("/refused-") { 3 } else { 1 }));
-        assert_eq!(network(&[&[subcommand, &file], operands].concat(), b""), listed);
-        assert_eq!(network(&[&[subcommand, "--json", &file], operands].concat(), b""), listed);
+        assert_eq!(network(&[&[subcommand, &file], operands.as_ref()].concat(), b""), listed);
+        assert_eq!(network(&[&[subcommand, "--json", &file], operands.as_ref()].concat(), b""), listed);
         refused += 1;
     }
     assert!(refused > 5);

@@ -1,6 +1,6 @@
 //! Links and wanted weights to ask how thick a link must be.
 
-use super::outside;
+pub use super::outside;
 use crate::network::{Link, Network};
 use crate::random::Random;
 use crate::sheet::{MOST_LINKS, MOST_WEIGHT};
@@ -165,6 +165,15 @@ mod tests {
             turns
         });
         assert_eq!(of_link_0, [Ok(0), Ok(1), Ok(2), Ok(3), Ok(4), Err(20)].into());
+    }
+
+    #[test]
+    fn numbers_outside_are_so_and_have_a_link_in_their_lower_bits() {
+        for links in [1, 2, 255, 2047, MOST_LINKS] {
+            let outside = outside(links);
+            assert!(outside.iter().all(|&link| link as usize >= links));
+            assert!([links as u32, 65_536, u32::MAX].iter().all(|link| outside.contains(link)));
+        }
     }
 
     #[test]

@@ -22,23 +22,19 @@ mod tests {
         (0..MOST_NODES - 1).map(row_start).collect()
     }
 
-    /// The numbers of lines that have one each, followed by `behind`; none if a line has anything else.
-    fn numbers(lines: &str, behind: &str) -> Option<Vec<usize>> {
-        let number = |line: &str| line.trim_start().strip_suffix(behind)?.parse().ok();
-        lines.split_inclusive('\n').map(number).collect()
-    }
-
-    /// The numbers that a program prints, one a line.
+    /// The numbers that a program prints, one a line; none if a line has anything else.
     fn printed(output: &str) -> Option<Vec<usize>> {
-        numbers(output, "\n")
+        let number = |line: &str| line.strip_suffix('\n')?.parse().ok();
+        output.split_inclusive('\n').map(number).collect()
     }
 
-    /// The numbers of the only table in a source, one a line.
+    /// The numbers of the only table in a source, each with a comma behind it; none if anything else is there.
     fn table(source: &str) -> Option<Vec<usize>> {
         let (before, behind) = source.split_once(TABLE_START)?;
         let (lines, rest) = behind.split_once(TABLE_END)?;
         let is_only = ![before, rest].iter().any(|part| part.contains(TABLE_START));
-        numbers(lines, ",\n").filter(|_| is_only)
+        let number = |word: &str| word.strip_suffix(',')?.parse().ok();
+        lines.split_whitespace().map(number).collect::<Option<Vec<usize>>>().filter(|_| is_only)
     }
 
     #[test]
@@ -55,9 +51,9 @@ mod tests {
         assert_eq!(row_starts().len(), 255);
     }
 
-    /// The lines with one left out, one there twice, and one that has another number, each at several places.
-    fn wrong(lines: &str) -> Vec<String> {
-        let lines: Vec<&str> = lines.split_inclusive('\n').collect();
+    /// The numbers with one left out, one there twice, and another one in its place, each at several places; each number ends as `ends` says.
+    fn wrong(numbers: &str, ends: char) -> Vec<String> {
+        let lines: Vec<&str> = numbers.split_inclusive(ends).collect();
         let at = |place: usize| {
             let (before, rest) = lines.split_at(place);
             let (line, behind) = (rest[0], &rest[1..]);
@@ -69,12 +65,12 @@ mod tests {
 
     #[test]
     fn a_number_that_is_missing_surplus_or_wrong_is_noticed() {
-        for output in wrong(PRINTED) {
+        for output in wrong(PRINTED, '\n') {
             assert_ne!(printed(&output), Some(row_starts()), "{output}");
         }
         let (before, behind) = SOURCE.split_once(TABLE_START).expect("a table");
         let (lines, rest) = behind.split_once(TABLE_END).expect("the table's end");
-        for lines in wrong(lines) {
+        for lines in wrong(lines.trim_end(), ',') {
             let source = [before, TABLE_START, &lines, TABLE_END, rest].concat();
             assert_ne!(table(&source), Some(row_starts()), "{source}");
         }

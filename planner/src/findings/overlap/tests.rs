@@ -1,10 +1,10 @@
 use super::*;
-use crate::findings::tests::{answer, bytes, cables, least_with, networks, parse, parsed, reference_findings, RING};
+use crate::findings::tests::{answer, bytes, cables, least_with, parse, parsed, reference_findings, RING};
 use crate::fit;
 use crate::text::Parsed;
 use reference::cuts;
 use reference::every_side;
-use reference::generate;
+use reference::generate::{self, FEATURES};
 use reference::list;
 use reference::network::{Link, Network};
 use reference::random::Random;
@@ -278,14 +278,23 @@ fn ring(random: &mut Random) -> Network {
     Network { nodes, links, trees }
 }
 
+fn networks(random: &mut Random) -> Vec<Network> {
+    let mut networks: Vec<Network> = (0..100).map(|_| ring(random)).collect();
+    for feature in FEATURES {
+        for _ in 0..20 {
+            let size = generate::random_size(random, 3, every_side::MOST_NODES, feature);
+            networks.push(generate::network(random, size, feature));
+        }
+    }
+    networks
+}
+
 /// Where each corner is said to be a lightest cut, no side is lighter, and after any single cable some side is still as light.
 #[test]
 fn what_is_said_of_two_cuts_holds_for_every_side() {
     let mut random = Random::new(8);
     let (mut said, mut not_said, mut with_empty) = (0, 0, 0);
-    let rings: Vec<Network> = (0..100).map(|_| ring(&mut random)).collect();
-    let others = networks(&mut random, 3..=every_side::MOST_NODES, 20);
-    for network in rings.into_iter().chain(others) {
+    for network in networks(&mut random) {
         let parsed = parsed(network.clone());
         let findings = reference_findings(&parsed);
         let mut here = 0;
