@@ -187,6 +187,11 @@ fn print_table() -> bool {
     longest_kept && middle_kept
 }
 
+/// How many pairs a tree of so many nodes has.
+fn pairs(nodes: usize) -> usize {
+    (nodes - 1) * (nodes - 2) / 2
+}
+
 fn main() {
     match std::env::args().nth(1).as_deref() {
         None => {
@@ -201,6 +206,7 @@ fn main() {
             let (first, second) = corners::sides(LONGEST.nodes);
             println!("corners stack depth {} bytes", deepest(&|sheet| stack::corners_depth(sheet, &first, &second)));
             println!("thickness stack depth {} bytes", deepest(&stack::thickness_depth));
+            println!("pairs stack depth {} bytes", deepest(&|sheet| stack::pairs_depth(sheet, pairs(LONGEST.nodes))));
         }
         Some(_) => {
             eprintln!("usage: bench [--stack]");

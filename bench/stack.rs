@@ -1,7 +1,7 @@
 //! How deep the entries' stack goes.
 
 use crate::answer::Outcome;
-use reference::entry::{wcut_corners, wcut_list, wcut_report, wcut_thickness};
+use reference::entry::{wcut_corners, wcut_list, wcut_pairs, wcut_report, wcut_thickness};
 use reference::report::{Side, SIDE_BYTES};
 use reference::thickness::OUT_OF_REACH;
 use std::arch::asm;
@@ -92,5 +92,15 @@ pub fn thickness_depth(sheet: &[u8]) -> usize {
     // SAFETY: the pointer to the sheet is that of a slice with the length behind it, and the figure is a number that it does not overlap.
     let (number, depth) = unsafe { call(wcut_thickness as *const () as usize, &arguments) };
     assert_eq!(number, OUT_OF_REACH);
+    depth
+}
+
+/// The stack that the pairs of a sheet's first tree take.
+pub fn pairs_depth(sheet: &[u8], most_pairs: usize) -> usize {
+    let mut weights = vec![0u64; most_pairs];
+    let arguments = [sheet.as_ptr() as usize, sheet.len(), 0, weights.as_mut_ptr() as usize, weights.len()];
+    // SAFETY: each pointer is that of a slice or a vector with the length behind it, and the two do not overlap.
+    let (number, depth) = unsafe { call(wcut_pairs as *const () as usize, &arguments) };
+    assert_eq!(number, 0);
     depth
 }

@@ -1,11 +1,12 @@
 /*
  * The weakest-cut monitor: from a serialised network, the link sheet, to the lightest cut that crosses at most two links of some
  * listed spanning tree, and whether it is provably the lightest cut of the whole network (wcut_report); to every such cut of that weight
- * (wcut_list); to what runs between the corners of two cuts (wcut_corners); and to the least weight of a link for a wanted weight of the
- * lightest cut (wcut_thickness). docs/ENTRY.md has the layouts and the cost.
+ * (wcut_list); to what runs between the corners of two cuts (wcut_corners); to the least weight of a link for a wanted weight of the
+ * lightest cut (wcut_thickness); and to the weights of all pairs of a tree's links (wcut_pairs). docs/ENTRY.md has the layouts and the cost.
  *
  * Link with libmonitor.a, which is for x86-64 and its System V calling convention; it needs memset and memcpy. The entries keep no state,
- * allocate nothing, and take WCUT_STACK_BYTES, WCUT_LIST_STACK_BYTES, WCUT_CORNERS_STACK_BYTES and WCUT_THICKNESS_STACK_BYTES of stack.
+ * allocate nothing, and take WCUT_STACK_BYTES, WCUT_LIST_STACK_BYTES, WCUT_CORNERS_STACK_BYTES, WCUT_THICKNESS_STACK_BYTES and
+ * WCUT_PAIRS_STACK_BYTES of stack.
  */
 #ifndef WCUT_H
 #define WCUT_H
@@ -21,10 +22,11 @@ extern "C" {
 #define WCUT_SIDE_BYTES 32       /* a side, in the side area, in a list and in a side map: node k is bit k % 8 of byte k / 8 */
 #define WCUT_REPORT_BYTES 24     /* the report area, laid out as below */
 #define WCUT_LONGEST_SHEET 30853 /* a sheet of more bytes is refused */
-#define WCUT_STACK_BYTES 45328   /* what a call takes of the stack: measured on longest sheets (tools/bench --stack), not proved */
-#define WCUT_LIST_STACK_BYTES 56384 /* the same of wcut_list */
-#define WCUT_CORNERS_STACK_BYTES 17664 /* the same of wcut_corners */
-#define WCUT_THICKNESS_STACK_BYTES 45264 /* the same of wcut_thickness */
+#define WCUT_STACK_BYTES 49952   /* what a call takes of the stack: measured on longest sheets (tools/bench --stack), not proved */
+#define WCUT_LIST_STACK_BYTES 60912 /* the same of wcut_list */
+#define WCUT_CORNERS_STACK_BYTES 18976 /* the same of wcut_corners */
+#define WCUT_THICKNESS_STACK_BYTES 49872 /* the same of wcut_thickness */
+#define WCUT_PAIRS_STACK_BYTES 50768 /* the same of wcut_pairs */
 #define WCUT_MOST_NODES 256
 #define WCUT_MOST_LINKS 2048
 #define WCUT_MOST_TREES 32
@@ -54,7 +56,7 @@ extern "C" {
 /*
  * What the entries return: 0, or the first refusal that applies, in this order; within links and trees, record by record. A trunk number
  * is a field of its link. wcut_report returns 1 to 16, wcut_list 3 to 16 and 19, wcut_corners 1, 3 to 16 and 21, wcut_thickness 3 to 16,
- * 18 and 20. docs/REFUSALS.md has the same numbers, names and words; `make test` compares them. Units already sold give 2 only below 16
+ * 18 and 20, wcut_pairs 3 to 16, 23 and 24. docs/REFUSALS.md has the same numbers, names and words; `make test` compares them. Units already sold give 2 only below 16
  * bytes, and 8 to every map byte above 7.
  */
 #define WCUT_ACCEPTED 0
@@ -78,6 +80,8 @@ extern "C" {
 #define WCUT_SHORT_LIST 19   /* the area cannot hold every side of the list, at 32 bytes a side */
 #define WCUT_OUT_OF_REACH 20 /* no 4-byte weight of the link makes the reported weight as large as wanted */
 #define WCUT_NO_SIDE 21      /* a side map is empty, has node 0, or has a bit set from the node count up */
+#define WCUT_NO_TREE 23      /* a tree number is not below the tree count */
+#define WCUT_SHORT_PAIRS 24  /* the area has fewer numbers than the tree has pairs */
 
 /*
  * Reads the sheet, writes the first 32 bytes of the side area and the first 24 of the report area, and returns WCUT_ACCEPTED; or
@@ -152,6 +156,23 @@ uint32_t wcut_corners(const uint8_t *sheet, size_t sheet_length,
 uint32_t wcut_thickness(const uint8_t *sheet, size_t sheet_length,
                         uint32_t link, uint64_t wanted,
                         uint32_t *thickness);
+
+/*
+ * All pairs of one tree. Ranks the tree's links by number from 0, writes for s below r the weight of the pair of the links of ranks s and r
+ * to weights[r * (r - 1) / 2 + s], and returns WCUT_ACCEPTED; numbers behind the last pair stay as they are. A tree of n nodes has
+ * (n - 1) * (n - 2) / 2 pairs. Or leaves the area as it is and returns the number of the first refusal: the sheet's, then WCUT_NO_TREE where
+ * the sheet has no such tree, then WCUT_SHORT_PAIRS.
+ *
+ * The caller's duties:
+ *   - each pointer is not null; sheet points to as many bytes and weights to as many numbers as the length behind it says, and the numbers
+ *     are writable;
+ *   - sheet and weights do not overlap;
+ *   - nothing else reads or writes the area, or writes the sheet, during the call;
+ *   - the stack has room for WCUT_PAIRS_STACK_BYTES.
+ */
+uint32_t wcut_pairs(const uint8_t *sheet, size_t sheet_length,
+                    uint32_t tree,
+                    uint64_t *weights, size_t weights_count);
 
 #ifdef __cplusplus
 }
