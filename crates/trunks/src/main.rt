@@ -1,44 +1,24 @@
 // The cable crew's program: reads a sheet from standard input and prints the trunk number of each link, or the sheet's refusal.
 #![tactic(auto)]
 
-ghost use Rattle.std.specs.Prelude.{◌≤◌, length};
-
 use print_trunks::{MOST_OUTPUT, trunk_lines};
-use std::io::{Read, Stdin, Stdout};
+
+const STDIN: i32 = 0;
+
+const STDOUT: i32 = 1;
 
 // Bytes of the input behind these are not read.
 const MOST_INPUT: usize = 32768;
 
-// Reads until the buffer is full or the input ends, and answers how many bytes were read; a read that fails counts as the end. The number
-// of reads, which no run uses up, is there since each loop is proved to end.
-fn read_full(stdin: &mut Stdin, buffer: &mut [u8]) -> usize
-    ensures { result ≤ length buffer.new }
-{
-    let mut read = 0;
-    for _ in 0..u64::MAX {
-        if read >= buffer.len() {
-            return buffer.len();
-        }
-        match stdin.read(&mut buffer[read..]) {
-            Ok(0) => return read,
-            Ok(more) => read += more,
-            Err(_) => return read,
-        }
-    }
-    buffer.len().min(read)
-}
-
 // Reads until the buffer is full or the input ends, and prints what the bytes read give.
-fn trunks(input: &mut [u8], stdin: &mut Stdin, stdout: &mut Stdout) {
-    let read = read_full(stdin, input);
+fn trunks(input: &mut [u8]) {
+    let read = io::read_full(STDIN, input);
     let mut out = [0u8; MOST_OUTPUT];
     let lines = trunk_lines(&mut out, &input[..read]);
-    match stdout.write_all(lines) {
-        Ok(()) | Err(_) => {}
-    }
+    io::write_all(STDOUT, lines);
 }
 
-fn main(rt: HostRuntime) {
+fn main() {
     let mut input = [0u8; MOST_INPUT];
-    trunks(&mut input, &mut rt.stdin(), &mut rt.stdout());
+    trunks(&mut input);
 }
