@@ -23,6 +23,7 @@ use answer::Outcome;
 use networks::{Kind, KINDS};
 use reference::entry::{wcut_list, wcut_report};
 use reference::generate::Size;
+use reference::pairs::row_start;
 use std::hint::black_box;
 use std::process::exit;
 use std::sync::atomic::{AtomicUsize, Ordering};
@@ -187,11 +188,6 @@ fn print_table() -> bool {
     longest_kept && middle_kept
 }
 
-/// How many pairs a tree of so many nodes has.
-fn pairs(nodes: usize) -> usize {
-    (nodes - 1) * (nodes - 2) / 2
-}
-
 fn main() {
     match std::env::args().nth(1).as_deref() {
         None => {
@@ -206,7 +202,9 @@ fn main() {
             let (first, second) = corners::sides(LONGEST.nodes);
             println!("corners stack depth {} bytes", deepest(&|sheet| stack::corners_depth(sheet, &first, &second)));
             println!("thickness stack depth {} bytes", deepest(&stack::thickness_depth));
-            println!("pairs stack depth {} bytes", deepest(&|sheet| stack::pairs_depth(sheet, pairs(LONGEST.nodes))));
+            // behind the pairs of all links would stand the row of one more
+            let most_pairs = row_start(LONGEST.nodes - 1);
+            println!("pairs stack depth {} bytes", deepest(&|sheet| stack::pairs_depth(sheet, most_pairs)));
         }
         Some(_) => {
             eprintln!("usage: bench [--stack]");
