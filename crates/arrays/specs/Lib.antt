@@ -5,3 +5,4 @@ pub mod Order
 pub mod Grown
 pub mod Kept
 pub mod Records
+pub mod Sheets

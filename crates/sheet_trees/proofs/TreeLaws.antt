@@ -7,15 +7,17 @@ use lib.ListN.{length}
 use Rattle.cuts.specs.Network.{Network, tree_at}
 use Rattle.sheet.specs.Bytes.{Bytes}
 use Rattle.sheet.specs.Sheet.{Format, current, tree_length}
-use Rattle.arrays.specs.Records.{network_at, SheetHeld}
+use Rattle.arrays.specs.Records.{network_at, SheetHeld, SheetListed}
+use Rattle.arrays.specs.Sheets.{network_of}
 use Rattle.arrays.specs.declared.Layout.{Layout}
+use Rattle.arrays.specs.declared.sheets.Sheet.{Sheet}
 use Rattle.read_sheet.proofs.TreeLaws.{record_inside}
 use Rattle.read_sheet.proofs.NetworkLaws.{network_at-trees, network_at-laid, links_known}
 use Rattle.by_node.specs.Index.{Indexable, LinksIndexed}
 use Rattle.tree_rows.specs.Making.{Searchable}
 use Rattle.tree_ranks.specs.Ranks.{RankedHeld}
 use Rattle.tree_ranks.specs.declared.Ranked.{Ranked}
-use Rattle.sheet_trees.specs.Trees.{RecordThere, TreeRanked, SheetListed}
+use Rattle.sheet_trees.specs.Trees.{RecordThere, TreeRanked}
 
 module _ {f : Format} {s : Bytes} {ends : List (List ℕ)} {ws : List ℕ} {l : Layout} (h : SheetHeld f s ends ws l) where
   pub record_there : (i : ℕ) → i < l.trees → RecordThere s l i
@@ -38,21 +40,17 @@ sheet-listed {s} {ends} {ws} {l = l} h i =
 
 -- ---- a tree, ranked, of a sheet whose links are listed by node
 
-module _ {s : Bytes} {ends : List (List ℕ)} {ws lists degrees : List ℕ} {l : Layout} (h : SheetListed s ends ws lists degrees l) {i : ℕ} (b : i < l.trees) where
-  abbrev net : Network
-  net = network_at s ends ws l
+pub is-listed : (n : Sheet) (i : ℕ) → i < n.layout.trees → i < length (network_of n).trees
+is-listed n i b = omega (arith, network_at-trees n.held)
 
-  pub is-listed : i < length net.trees
-  is-listed = omega (arith, network_at-trees h.held, b)
+module _ {n : Sheet} {lists degrees : List ℕ} (h : SheetListed n.bytes.now n.links.now.ends n.links.now.weights lists degrees n.layout) {i : ℕ} {r : Ranked} (k : TreeRanked n i r) where
+  pub tree-searchable : Searchable n.links.now.ends lists r.node r.stops n.layout.nodes
+  tree-searchable = record {
+    few_nodes = n.held.accepted.nodes_most;
+    links_listed = (n.layout.links, n.held.few_links, h.indexed.by_node);
+    nodes-in = k.nodes_known;
+    stops_in = k.stops_known;
+  }
 
-  module _ {r : Ranked} (k : TreeRanked s ends l i r) where
-    pub tree-searchable : Searchable ends lists r.node r.stops l.nodes
-    tree-searchable = record {
-      few_nodes = h.held.accepted.nodes_most;
-      links_listed = (l.links, h.held.few_links, h.indexed.by_node);
-      nodes-in = k.nodes_known;
-      stops_in = k.stops_known;
-    }
-
-    pub tree_held : RankedHeld net (tree_at net i) ends ws lists l.nodes r
-    tree_held = record { count = l.links; indexed = h.indexed; ranked = k.ranked ws h.held }
+  pub tree_held : RankedHeld (network_of n) (tree_at (network_of n) i) n.links.now.ends n.links.now.weights lists n.layout.nodes r
+  tree_held = record { count = n.layout.links; indexed = h.indexed; ranked = k.ranked }

@@ -1,40 +1,60 @@
-// The trees of a sheet that was read, each made from its record: its link map, its places and its ranks.
+// The links of a sheet that was read, by node, and its trees, each made from its record: its link map, its places and its ranks.
 #![tactic(auto)]
 
-ghost use Rattle.std.specs.Prelude.{◌≡◌};
-ghost use Rattle.arrays.specs.Records.{record_of, map_at};
-ghost use Rattle.sheet_trees.specs.Trees.{RecordThere, TreeListed, TreePlaced, TreeRanked};
+ghost use Rattle.std.specs.Prelude.{◌≡◌, ◌<◌};
+ghost use Rattle.arrays.specs.Records.{record_of, map_at, SheetListed};
+ghost use Rattle.sheet_trees.specs.Trees.{TreePlaced, TreeRanked};
 
-use arrays::Layout;
-use format::limits::MOST_LINKS;
+use arrays::sheets::{Index, Sheet};
+use by_node::index_links;
 use read_sheet::tree_records::{grow_tree, record_at, tree_map};
 use tree_places::{Places, place_tree};
 use tree_ranks::{Ranked, rank_places};
 
-// The link map of a tree.
-pub fn map_of(s: &[u8], l: Layout, tree: usize) -> &[u8]
-    requires { RecordThere s.now l tree }
-    ensures { result.now ≡ map_at s.now (record_of l tree) l.links }
+// Lists the links by node and weighs the nodes.
+pub fn index_sheet(index: &mut Index, n: &Sheet)
+    ensures { SheetListed n.now.bytes.now n.now.links.now.ends n.now.links.now.weights
+        index.new.lists index.new.degrees n.now.layout }
 {
-    let at = record_at(l.records, l.links, tree);
-    tree_map(s, at, l.links)
+    let links = n.links;
+    index_links(
+        &mut index.lists,
+        &mut index.degrees,
+        n.layout.nodes,
+        n.layout.links,
+        &links.ends,
+        &links.weights,
+    );
+}
+
+// The link map of a tree.
+pub fn map_of<'a>(n: &Sheet<'a>, tree: usize) -> &'a [u8]
+    requires { tree < n.now.layout.trees }
+    ensures { result.now
+        ≡ map_at n.now.bytes.now (record_of n.now.layout tree) n.now.layout.links }
+{
+    let l = n.layout;
+    tree_map(n.bytes, record_at(l.records, l.links, tree), l.links)
 }
 
 // A tree by its places, grown from its record.
-pub fn place_record(s: &[u8], l: Layout, tree: usize, ends: &[[u8; MOST_LINKS]; 2]) -> Places
-    requires { TreeListed s.now ends.now l tree }
-    ensures { TreePlaced s.now ends.now l tree result }
+pub fn place_record(n: &Sheet, tree: usize) -> Places
+    requires { tree < n.now.layout.trees }
+    ensures { TreePlaced n.now tree result }
 {
-    let nodes = l.nodes;
-    let map = map_of(s, l, tree);
-    place_tree(nodes, grow_tree(map, nodes, l.links, ends))
+    let l = n.layout;
+    let links = n.links;
+    place_tree(
+        l.nodes,
+        grow_tree(map_of(n, tree), l.nodes, l.links, &links.ends),
+    )
 }
 
 // A tree by its places and ranks.
-pub fn rank_record(s: &[u8], l: Layout, tree: usize, ends: &[[u8; MOST_LINKS]; 2]) -> Ranked
-    requires { TreeListed s.now ends.now l tree }
-    ensures { TreeRanked s.now ends.now l tree result }
+pub fn rank_record(n: &Sheet, tree: usize) -> Ranked
+    requires { tree < n.now.layout.trees }
+    ensures { TreeRanked n.now tree result }
 {
-    let p = place_record(s, l, tree, ends);
-    rank_places(l.nodes, l.links, p)
+    let l = n.layout;
+    rank_places(l.nodes, l.links, place_record(n, tree))
 }

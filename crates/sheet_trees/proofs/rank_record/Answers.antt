@@ -13,22 +13,22 @@ use Rattle.sheet_trees.proofs.rank_record.Goals as goal
 
 pub rank_places-requires : goal.rank_places-requires
 rank_places-requires c =
-    let p = c.requires in
-    let k = c.place_record-p.ensures.kept p.weights p.held in
-    let l = links_known p.held in
+    let h = c.args.n.now.held in
+    let k = c.place_record.ensures.kept in
+    let l = links_known h in
     record {
       few_nodes = l.few_nodes;
       few_links = l.few_links;
-      is_link = λ q z b. let m = (k.links-at.member q z b).is_link in omega (arith, network_at-links p.held);
+      is_link = λ q z b. let m = (k.links-at.member q z b).is_link in omega (arith, network_at-links h);
     }
 
 pub returns : goal.returns
 returns c =
-    let a = c.args in
-    let placed = c.place_record-p.ensures in
+    let n = c.args.n.now in
+    let placed = c.place_record.ensures in
     let r = c.rank_places.ensures in
     record {
-      nodes_known = subst (λ (l : List ℕ). Within l most_nodes a.l.nodes) (sym r.same_node) placed.nodes_known;
+      nodes_known = subst (λ (l : List ℕ). Within l most_nodes n.layout.nodes) (sym r.same_node) placed.nodes_known;
       stops_known = subst StopsKnown (sym r.same_stops) placed.stops_known;
-      ranked = λ ws h. r.ranked _ _ (placed.kept ws h) refl (network_at-links h);
+      ranked = r.ranked _ _ placed.kept refl (network_at-links n.held);
     }
