@@ -27,6 +27,16 @@ pub struct Index {
     pub degrees: [u64; MOST_NODES],
 }
 
+impl Index {
+    // One to be filled.
+    pub fn empty() -> Index {
+        Index {
+            lists: [0; LISTS],
+            degrees: [0; MOST_NODES],
+        }
+    }
+}
+
 // A sheet that was read, with its links by node.
 #[derive(Clone, Copy)]
 pub struct ListedSheet<'a> {

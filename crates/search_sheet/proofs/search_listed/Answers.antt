@@ -5,7 +5,7 @@ use native.Mathlib.Omega.{arith}
 use Rattle.cuts.specs.First.{first_from}
 use Rattle.cuts.specs.Network.{Network, tree_at}
 use Rattle.cuts.specs.Candidate.{Candidate, fewer_nodes, ahead}
-use Rattle.arrays.specs.Records.{network_at}
+use Rattle.arrays.specs.Sheets.{network_of}
 use Rattle.search_order.specs.Choice.{Says, Prior, tree_candidates}
 use Rattle.read_sheet.proofs.NetworkLaws.{network_at-trees}
 use Rattle.search_sheet.proofs.ToComeLaws.{trees-start, trees-more, brought_before, trees_done}
@@ -14,50 +14,48 @@ use Rattle.search_sheet.proofs.search_listed.Goals as goal
 use Rattle.search_sheet.proofs.search_listed.Goals.{After-search_tree-best, Joined-best-i, else-best-i, then-best-i}
 
 -- what was found of the tree itself
-searched : (c : After-search_tree-best) → let l = c.loop-i in let m = network_at c.args.s.now c.args.ends.now c.args.weights.now c.args.l in let t = tree_at m l.i in
+searched : (c : After-search_tree-best) → let l = c.loop-i in let m = network_of c.args.n.now.sheet in let t = tree_at m l.i in
     (d : Candidate) → Prior (ahead fewer_nodes) m l.i t d → Says l.best d → Says c.search_tree-best.result (first_from (ahead fewer_nodes) d (tree_candidates m l.i t))
 searched c d prior says =
-    let net : Network = network_at c.args.s.now c.args.ends.now c.args.weights.now c.args.l in
-    let a = c.args in
-    let kept = c.place_record-p.ensures.kept a.weights.now c.requires.held in
-    c.search_tree-best.ensures net _ d (record { count = a.l.links; indexed = c.requires.indexed; kept = kept }) c.requires.degrees_are prior says
+    let net : Network = network_of c.args.n.now.sheet in
+    let n = c.args.n.now in
+    c.search_tree-best.ensures net _ d (record { count = n.sheet.layout.links; indexed = n.listed.indexed; kept = c.place_record-p.ensures.kept }) n.listed.degrees_are prior says
 
 -- the side of what is found: made where the tree brought it, else that of before
-sided : (c : Joined-best-i) → SideKept (network_at c.args.s.now c.args.ends.now c.args.weights.now c.args.l) c.search_tree-best.result c.if-best-i.side
+sided : (c : Joined-best-i) → SideKept (network_of c.args.n.now.sheet) c.search_tree-best.result c.if-best-i.side
 sided c =
-    let net : Network = network_at c.args.s.now c.args.ends.now c.args.weights.now c.args.l in
+    let net : Network = network_of c.args.n.now.sheet in
     let l = c.loop-i in
     let m = c.loop-i-test.true in
     let found = c.search_tree-best.result in
     elim c.if-best-i.branch [
       | then-best-i w ↦ subst (SideKept net found) (sym w.side-is) (side_made w.if-best-i.true
-          (w.side_of-side.ensures net (tree_at net l.i) (c.place_record-p.ensures.kept c.args.weights.now c.requires.held) refl))
-      | else-best-i w ↦ let k = brought_before net c.requires.held.accepted.sound c.requires.indexed.light l.i (omega (arith, m, network_at-trees c.requires.held))
-          l.invariant.1 (searched (goal.at.loop-i-preserved c).After-search_tree-best) w.if-best-i.false in
-          subst (SideKept net found) (sym w.side-is) (side_same k.1 k.2 (l.invariant.2 k.0))
+          (w.side_of-side.ensures net (tree_at net l.i) c.place_record-p.ensures.kept refl))
+      | else-best-i w ↦ let k = brought_before net c.args.n.now.sheet.held.accepted.sound c.args.n.now.listed.indexed.light l.i (omega (arith, m, network_at-trees c.args.n.now.sheet.held))
+          l.invariant.0 (searched (goal.at.loop-i-preserved c).After-search_tree-best) w.if-best-i.false in
+          subst (SideKept net found) (sym w.side-is) (side_same k.1 k.2 (l.invariant.1 k.0))
     ]
 
 pub loop-i-init : goal.loop-i-init
 loop-i-init c =
-    let net : Network = network_at c.args.s.now c.args.ends.now c.args.weights.now c.args.l in
-    (omega arith, trees-start net c.requires.held.accepted.sound c.requires.indexed.light c.unfound-best.ensures, λ z. absurd (omega arith))
+    let net : Network = network_of c.args.n.now.sheet in
+    (trees-start net c.args.n.now.sheet.held.accepted.sound c.args.n.now.listed.indexed.light c.unfound-best.ensures, λ z. absurd (omega arith))
 
 pub loop-i-preserved : goal.loop-i-preserved
 loop-i-preserved c =
-    let net : Network = network_at c.args.s.now c.args.ends.now c.args.weights.now c.args.l in
+    let net : Network = network_of c.args.n.now.sheet in
     let l = c.loop-i in
     let m = c.loop-i-test.true in (
-      omega (arith, m),
-      trees-more net c.requires.held.accepted.sound c.requires.indexed.light l.i (omega (arith, m, network_at-trees c.requires.held)) l.invariant.1 (searched (goal.at.loop-i-preserved c).After-search_tree-best),
+      trees-more net c.args.n.now.sheet.held.accepted.sound c.args.n.now.listed.indexed.light l.i (omega (arith, m, network_at-trees c.args.n.now.sheet.held)) l.invariant.0 (searched (goal.at.loop-i-preserved c).After-search_tree-best),
       λ _. sided c,
     )
 
 pub returns : goal.returns
 returns c =
-    let net : Network = network_at c.args.s.now c.args.ends.now c.args.weights.now c.args.l in
+    let net : Network = network_of c.args.n.now.sheet in
     let l = c.loop-i in
-    let h = c.requires.held in
+    let h = c.args.n.now.sheet.held in
     let v = h.accepted.sound in
-    let all : l.i ≡ length net.trees = omega (arith, l.invariant.0, c.loop-i-test.false, network_at-trees h) in
-    let says = trees_done net v c.requires.indexed.light l.i all l.invariant.1 in
-    record { says = says; side_is = side-reported v says (l.invariant.2 (omega (arith, all, v.listed))) }
+    let all : l.i ≡ length net.trees = omega (arith, c.loop-i-test.false, network_at-trees h) in
+    let says = trees_done net v c.args.n.now.listed.indexed.light l.i all l.invariant.0 in
+    record { says = says; side_is = side-reported v says (l.invariant.1 (omega (arith, all, v.listed))) }
