@@ -1,12 +1,12 @@
 -- A tree's share added to the loads of its members, link by link, and the trees of a sheet counted one after another, over plain lists:
 -- while no tree has overloaded a link the loads are those of the trees so far, none past its link's weight; the first tree that would
 -- overload one ends the run, which then is the longest. Assumes nothing.
-use Prim.Native.Nat.{ℕ, suc, ◌+◌, ◌-◌, ◌*◌, ◌≤◌, ◌<◌}
+use Prim.Native.Nat.{ℕ, zero, suc, ◌+◌, ◌-◌, ◌*◌, ◌≤◌, ◌<◌}
 use mathlib.Core.Path.{◌≡◌, refl, sym, ap, ◌∙◌, subst}
 use mathlib.Core.Logic.{◌⊎◌, inl, inr}
-use mathlib.Core.Bool.{Bool, true, false, not, and-false, and-eq-true_iff}
+use mathlib.Core.Bool.{Bool, true, false, ◌&&◌, ◌||◌, and-true, and-false, or-false, or_assoc, and-eq-true_iff}
 use mathlib.Core.List.{List, [], ◌∷◌, ◌++◌}
-use native.Mathlib.Nat.{add-zero, zero-mul, suc-mul}
+use native.Mathlib.Nat.{add-zero}
 use native.Mathlib.Numerals.{add-one}
 use native.Mathlib.Decide.{dec_lt}
 use native.Mathlib.Omega.{arith}
@@ -14,6 +14,7 @@ use lib.ListN.{length, set, take, drop, replicate, length-replicate, get_or-repl
 use lib.Seq.{get_or-set_same, get_or-set_other, drop-drop}
 use lib.Dec.{ltb}
 use borrow.Author.Tests.{ltb-true, lt-ltb, le-ltb, not-true, not-false}
+use Rattle.std.specs.List.{list_any, range_with_len}
 use Rattle.cuts.specs.Sums.{only, any_to, table}
 use Rattle.cuts.specs.Network.{Tree, Network, link_count}
 use Rattle.cuts.specs.Limits.{most_links, most_trees, four_bytes}
@@ -28,8 +29,8 @@ use Rattle.sheet.specs.Bytes.{Bytes, number, map_bit}
 use Rattle.sheet.specs.Sheet.{map_length, tree_length, tree_in}
 use Rattle.arrays.specs.declared.Layout.{Layout}
 use Rattle.arrays.specs.Records.{trees_from}
-use Rattle.read_sheet.proofs.TreeLaws.{members-at, trees_from-more, record_inside}
-use Rattle.packing.specs.Loads.{overfull, ShareAdded, most_shares, Totals, TreesCounted}
+use Rattle.read_sheet.proofs.TreeLaws.{members-at, trees_from-more}
+use Rattle.packing.specs.Loads.{overfull, ShareAdded, TreeTested, Totals, TreesCounted}
 
 -- ---- one tree's share
 
@@ -59,15 +60,29 @@ added-zero map loads links = record { below = λ j b. let e = only_none (map_bit
 
 -- ---- the test of one tree
 
+-- a test of each number from a on, for n numbers
+any_from : (f : ℕ → Bool) (a n : ℕ) → any_to (a + n) f ≡ (any_to a f || list_any f (range_with_len a n))
+unfolding any_to
+any_from f a zero = rw add-zero (sym (or-false (any_to a f)))
+any_from f a (suc n) =
+    let e : a + suc n ≡ suc a + n = omega arith in
+    rw (e, add-one) (any_from f (suc a) n ∙ or_assoc (any_to a f) (f a) (list_any f (range_with_len (suc a) n)))
+
+pub any_in_range : (f : ℕ → Bool) (n : ℕ) → list_any f (range_with_len 0 n) ≡ any_to n f
+unfolding any_to
+any_in_range f n = let e : 0 + n ≡ n = omega arith in sym (rw e at (any_from f 0 n))
+
 module _ (map : Bytes) (share : ℕ) (ws loads : List ℕ) where
-  pub overfull-set : (k : ℕ) → map_bit map k ≡ true → entry ws k < entry loads k + share → overfull map share ws loads k ≡ true
+  overfull-set : (k : ℕ) → map_bit map k ≡ true → entry ws k < entry loads k + share → overfull map share ws loads k ≡ true
   overfull-set k h l = rw h (lt-ltb _ _ l)
 
-  pub overfull-room : (k : ℕ) → entry loads k + share ≤ entry ws k → overfull map share ws loads k ≡ false
-  overfull-room k l = rw (le-ltb _ _ l) (and-false (map_bit map k))
-
-  pub overfull-unset : (k : ℕ) → map_bit map k ≡ false → overfull map share ws loads k ≡ false
-  overfull-unset k h = rw h
+  -- where the load is not past the weight, the share is held to what is left
+  pub overfull-left : (k : ℕ) → entry loads k ≤ entry ws k → (ltb (entry ws k - entry loads k) share && map_bit map k) ≡ overfull map share ws loads k
+  overfull-left k c = step (dec_lt (entry ws k) (entry loads k + share))
+    where
+      step : Dec (entry ws k < entry loads k + share) → (ltb (entry ws k - entry loads k) share && map_bit map k) ≡ overfull map share ws loads k
+      step (yes h) = rw (lt-ltb _ _ h, lt-ltb (entry ws k - entry loads k) share (omega arith)) (sym (and-true (map_bit map k)))
+      step (no h) = rw (le-ltb (entry ws k) (entry loads k + share) (omega arith), le-ltb (entry ws k - entry loads k) share (omega arith)) (sym (and-false (map_bit map k)))
 
   -- where no member is overfull, each load with the share is within its link's weight
   pub has_room : (links : ℕ) → any_to links (overfull map share ws loads) ≡ false → (k : ℕ) → k < links → entry loads k ≤ entry ws k
@@ -104,20 +119,18 @@ module _ (net : Network) (s map : Bytes) (at position i : ℕ) (here : position 
   shares-next : shares (trees_from net (i + 1) (drop at s)) ≡ shares (trees_from net i (drop at s)) + number 4 (drop position s)
   shares-next = rw (trees-next, shares-append (trees_from net i (drop at s)) (tree_in net (drop position s)), share-is)
 
--- the first i of the tree records from the position `at` on count: `position` is the position behind them, the loads and the sum are theirs,
--- and no load is past its link's weight; no share is above 2^32 - 1
-pub record Loaded (s : Bytes) (ws : List ℕ) (at links : ℕ) (loads : List ℕ) (sum position i : ℕ) : Type 0 where
-  pub standing : position ≡ at + i * tree_length links
+-- the first i of the tree records from the position `at` on count: the loads and the sum are theirs, and no load is past its link's weight; no
+-- share is above 2^32 - 1
+pub record Loaded (s : Bytes) (ws : List ℕ) (at links : ℕ) (loads : List ℕ) (sum i : ℕ) : Type 0 where
   pub sized : length loads ≡ most_links
   pub carried : (k : ℕ) → k < links → entry loads k ≤ entry ws k
   pub small : sum ≤ i * (four_bytes - 1)
   pub bears : (net : Network) → link_count net ≡ links → (k : ℕ) → k < links → entry loads k ≡ load (trees_from net i (drop at s)) k
   pub adds : (net : Network) → link_count net ≡ links → sum ≡ shares (trees_from net i (drop at s))
 
-pub loaded-none : (s : Bytes) (ws : List ℕ) (at links n : ℕ) → n ≡ most_links → links ≤ n → Loaded s ws at links (replicate n 0) 0 at 0
+pub loaded-none : (s : Bytes) (ws : List ℕ) (at links n : ℕ) → n ≡ most_links → links ≤ n → Loaded s ws at links (replicate n 0) 0 0
 unfolding trees_from table load shares
 loaded-none s ws at links n e few = record {
-  standing = rw zero-mul (omega arith);
   sized = length-replicate {A = ℕ} n 0 ∙ e;
   carried = λ k b. omega (arith, none k b);
   small = omega arith;
@@ -132,32 +145,44 @@ loaded-none s ws at links n e few = record {
 abbrev Overfilled : Bytes → List ℕ → ℕ → ℕ → ℕ → Type 0
 Overfilled s ws at links i = (net : Network) → Weighed net ws links → Overloads net (trees_from net (i + 1) (drop at s))
 
-module _ {s : Bytes} {ws : List ℕ} {at links : ℕ} {loads : List ℕ} {sum position i : ℕ} (l : Loaded s ws at links loads sum position i) where
-  -- the next of `trees` records ends within the sheet
-  pub record_within : (trees : ℕ) → i < trees → at + trees * tree_length links ≤ length s → position + tree_length links ≤ length s
-  record_within trees b h = let r = record_inside at trees (tree_length links) (length s) i h b in let p = l.standing in omega arith
+-- the next tree, of the record at this position, was tested
+module _ {s : Bytes} {ws : List ℕ} {at links : ℕ} {loads : List ℕ} {sum i : ℕ} (l : Loaded s ws at links loads sum i) {map : Bytes} {share position : ℕ}
+    (here : position ≡ at + i * tree_length links) (slice : map ≡ take (map_length links) (drop (position + 4) s))
+    (whole : position + tree_length links ≤ length s) (is : share ≡ number 4 (drop position s)) where
+  bears-more : (net : Network) → link_count net ≡ links → (k : ℕ) → k < links
+      → entry loads k + only (map_bit map k) share ≡ load (trees_from net (i + 1) (drop at s)) k
+  bears-more net n k b = rw (l.bears net n k b, is) (sym (load-next net s map at position i (rw n here) (rw n slice) (rw n whole) k (rw n b)))
 
-  module _ {map : Bytes} {share : ℕ} (slice : map ≡ take (map_length links) (drop (position + 4) s)) (whole : position + tree_length links ≤ length s)
-      (is : share ≡ number 4 (drop position s)) where
-    bears-more : (net : Network) → link_count net ≡ links → (k : ℕ) → k < links
-        → entry loads k + only (map_bit map k) share ≡ load (trees_from net (i + 1) (drop at s)) k
-    bears-more net n k b = rw (l.bears net n k b, is) (sym (load-next net s map at position i (rw n l.standing) (rw n slice) (rw n whole) k (rw n b)))
+  module _ {counts : Bool} {next : List ℕ} (tested : TreeTested map links ws share loads next counts) (same : length next ≡ length loads) where
+    -- it counts
+    pub loaded-more : counts ≡ true → share < four_bytes → Loaded s ws at links next (sum + share) (i + 1)
+    loaded-more h low =
+        let none : any_to links (overfull map share ws loads) ≡ false = not-true _ (sym tested.counts ∙ h) in
+        let a : ShareAdded map share loads next links = rw h at tested.added in
+        record {
+          sized = same ∙ l.sized;
+          carried = λ k b. rw (a.below k b) (has_room map share ws loads links none k b (l.carried k b));
+          small = let b = l.small in omega arith;
+          bears = λ net n k b. a.below k b ∙ bears-more net n k b;
+          adds = λ net n. rw (l.adds net n, is) (sym (shares-next net s map at position i (rw n here) (rw n slice) (rw n whole)));
+        }
 
-    -- the next tree counts
-    loaded-more : share < four_bytes → any_to links (overfull map share ws loads) ≡ false → (next : List ℕ) → ShareAdded map share loads next links
-        → length next ≡ length loads → (end : ℕ) → end ≡ position + tree_length links → Loaded s ws at links next (sum + share) end (i + 1)
-    loaded-more low none next a same end e = record {
-      standing = rw (add-one, suc-mul) (let p = l.standing in omega arith);
-      sized = same ∙ l.sized;
-      carried = λ k b. rw (a.below k b) (has_room map share ws loads links none k b (l.carried k b));
-      small = let b = l.small in omega arith;
-      bears = λ net n k b. a.below k b ∙ bears-more net n k b;
-      adds = λ net n. rw (l.adds net n, is) (sym (shares-next net s map at position i (rw n l.standing) (rw n slice) (rw n whole)));
-    }
+    -- or the loads stay, and with it some link would be loaded past its weight
+    pub loaded-same : counts ≡ false → Loaded s ws at links next sum i
+    loaded-same h =
+        let a : ShareAdded map 0 loads next links = rw h at tested.added in
+        let kept : (k : ℕ) → k < links → entry next k ≡ entry loads k = λ k b. let e = a.below k b in let z = only_none (map_bit map k) in omega arith in
+        record {
+          sized = same ∙ l.sized;
+          carried = λ k b. let e = kept k b in let c = l.carried k b in omega arith;
+          small = l.small;
+          bears = λ net n k b. kept k b ∙ l.bears net n k b;
+          adds = l.adds;
+        }
 
-    -- or it would load a link past its weight
-    overfilled : any_to links (overfull map share ws loads) ≡ true → Overfilled s ws at links i
-    overfilled some net w =
+    pub overfilled : counts ≡ false → Overfilled s ws at links i
+    overfilled c net w =
+        let some : any_to links (overfull map share ws loads) ≡ true = not-false _ (sym tested.counts ∙ c) in
         let r = any_to-some links (overfull map share ws loads) some in
         let k : ℕ = r.0 in
         let h = (and-eq-true_iff (map_bit map k) (ltb (entry ws k) (entry loads k + share))).0 r.2 in
@@ -166,20 +191,6 @@ module _ {s : Bytes} {ws : List ℕ} {at links : ℕ} {loads : List ℕ} {sum po
         ap (λ (c : Bool). entry loads k + only c share) (sym h.0) ∙ bears-more net w.counted k r.1 in
         let b : k < link_count net = rw w.counted r.1 in
         (k, b, omega (arith, w.weights k b))
-
-  -- and the loads stay
-  loaded-same : (map : Bytes) (next : List ℕ) → ShareAdded map 0 loads next links → length next ≡ length loads → Loaded s ws at links next sum position i
-  loaded-same map next a same = record {
-    standing = l.standing;
-    sized = same ∙ l.sized;
-    carried = λ k b. let e = kept k b in let c = l.carried k b in omega arith;
-    small = l.small;
-    bears = λ net n k b. kept k b ∙ l.bears net n k b;
-    adds = l.adds;
-  }
-    where
-      kept : (k : ℕ) → k < links → entry next k ≡ entry loads k
-      kept k b = let e = a.below k b in let z = only_none (map_bit map k) in omega arith
 
 -- ---- the trees that count
 
@@ -192,7 +203,7 @@ module _ (net : Network) (s : Bytes) (at trees : ℕ) where
   unfolding trees_from
   trees-length = table-length trees (λ j. tree_in net (drop (j * tree_length (link_count net)) (drop at s)))
 
-module _ {s : Bytes} {ws : List ℕ} {at links : ℕ} {loads : List ℕ} {sum position n : ℕ} (trees : ℕ) (l : Loaded s ws at links loads sum position n) where
+module _ {s : Bytes} {ws : List ℕ} {at links : ℕ} {loads : List ℕ} {sum n : ℕ} (trees : ℕ) (l : Loaded s ws at links loads sum n) where
   totals-are : n ≤ trees → (net : Network) → Weighed net ws links → (n ≡ trees) ⊎ Overloads net (take (suc n) (trees_from net trees (drop at s)))
       → Totals net (trees_from net trees (drop at s)) links loads sum
   totals-are b net w full =
@@ -210,50 +221,17 @@ module _ {s : Bytes} {ws : List ℕ} {at links : ℕ} {loads : List ℕ} {sum po
         full = rw m f;
       }
 
+-- counting is done
+module _ {s : Bytes} {l : Layout} {ws loads : List ℕ} {sum n : ℕ} (few : l.trees ≤ most_trees) (x : Loaded s ws l.records l.links loads sum n) where
   -- all trees count
-  all_totals : n ≡ trees → (net : Network) → Weighed net ws links → Totals net (trees_from net trees (drop at s)) links loads sum
-  all_totals e net w = totals-are (omega arith) net w (inl e)
+  pub all_counted : n ≡ l.trees → TreesCounted s l ws loads sum
+  all_counted e = record { totals = λ net w. totals-are l.trees x (omega arith) net w (inl e); most = let a = x.small in omega arith }
 
   -- or the run ends at tree n
-  run_totals : n < trees → Overfilled s ws at links n → (net : Network) → Weighed net ws links → Totals net (trees_from net trees (drop at s)) links loads sum
-  run_totals b o net w =
-      totals-are (omega arith) net w
-      (inr (subst (Overloads net) (ap (λ (i : ℕ). trees_from net i (drop at s)) (add-one n) ∙ sym (first-trees net s at trees (suc n) b)) (o net w)))
-
--- ---- how far counting is
-
--- the trees before i count, or the run ended at the tree before i, which is `stop`
-pub data Progress (s : Bytes) (ws : List ℕ) (at links trees : ℕ) (loads : List ℕ) (sum position stop i : ℕ) : Type 0 where
-  going : Loaded s ws at links loads sum position i → stop ≡ trees → i ≤ trees → Progress s ws at links trees loads sum position stop i
-  ended : (p : ℕ) → Loaded s ws at links loads sum p stop → Overfilled s ws at links stop → stop < trees → i ≡ stop + 1
-      → Progress s ws at links trees loads sum position stop i
-
-module _ {s : Bytes} {ws : List ℕ} {at links trees : ℕ} {loads : List ℕ} {sum position stop i : ℕ} where
-  pub still_going : Progress s ws at links trees loads sum position stop i → i < stop → Loaded s ws at links loads sum position i × (stop ≡ trees)
-  still_going (going l e b) m = (l, e)
-  still_going (ended p l o b e) m = absurd (omega arith)
-
-  pub sum-small : Progress s ws at links trees loads sum position stop i → trees ≤ most_trees → sum ≤ most_shares
-  sum-small (going l e b) m = let a = l.small in omega arith
-  sum-small (ended p l o b e) m = let a = l.small in omega arith
-
-pub all-counted : {s : Bytes} {l : Layout} {ws loads : List ℕ} {sum position stop i : ℕ} → Progress s ws l.records l.links l.trees loads sum position stop i
-    → stop ≤ i → l.trees ≤ most_trees → TreesCounted s l ws loads sum
-all-counted {s} {l} {ws} {loads} {sum} {position} {stop} {i} p m few = record { totals = by_case p; most = sum-small p few }
-  where
-    by_case : Progress s ws l.records l.links l.trees loads sum position stop i → (net : Network) → Weighed net ws l.links
-        → Totals net (trees_from net l.trees (drop l.records s)) l.links loads sum
-    by_case (going x e b) = all_totals l.trees x (omega arith)
-    by_case (ended q x o b e) = run_totals l.trees x b o
-
--- a turn: the next tree was tested, and its share added where it counts
-module _ {s : Bytes} {ws : List ℕ} {at links : ℕ} {loads : List ℕ} {sum position i : ℕ} (l : Loaded s ws at links loads sum position i)
-    {map : Bytes} {share : ℕ} (slice : map ≡ take (map_length links) (drop (position + 4) s)) (whole : position + tree_length links ≤ length s)
-    (is : share ≡ number 4 (drop position s)) {counts : Bool} (tested : counts ≡ not (any_to links (overfull map share ws loads)))
-    {next : List ℕ} (a : ShareAdded map (only counts share) loads next links) (same : length next ≡ length loads) {trees : ℕ} (more : i < trees) (end : ℕ) where
-  pub turn-counts : counts ≡ true → share < four_bytes → end ≡ position + tree_length links → {stop : ℕ} → stop ≡ trees
-      → Progress s ws at links trees next (sum + share) end stop (i + 1)
-  turn-counts h low e f = going (loaded-more l slice whole is low (not-true _ (sym tested ∙ h)) next (rw h at a) same end e) f (omega arith)
-
-  pub turn-ends : counts ≡ false → Progress s ws at links trees next sum end i (i + 1)
-  turn-ends h = ended position (loaded-same l map next (rw h at a) same) (overfilled l slice whole is (not-false _ (sym tested ∙ h))) more refl
+  pub run_counted : n < l.trees → Overfilled s ws l.records l.links n → TreesCounted s l ws loads sum
+  run_counted b o = record {
+    totals = λ net w.
+        let e = ap (λ (i : ℕ). trees_from net i (drop l.records s)) (add-one n) ∙ sym (first-trees net s l.records l.trees (suc n) b) in
+        totals-are l.trees x (omega arith) net w (inr (subst (Overloads net) e (o net w)));
+    most = let a = x.small in omega arith;
+  }

@@ -23,16 +23,7 @@ fn overloads(map: &[u8], links: usize, weights: &[u32], loads: &[u32], share: u3
     ensures { result ≡ any_to links
         (overfull map.now share weights.now loads.now) }
 {
-    let mut k = 0;
-    while k < links {
-        if weights[k] - loads[k] < share {
-            if bit_set(map, k) {
-                return true;
-            }
-        }
-        k += 1;
-    }
-    false
+    (0..links).any(|k| weights[k] - loads[k] < share && bit_set(map, k))
 }
 
 // Adds a tree's share to the load of each of its members.
@@ -40,12 +31,10 @@ fn add_share(loads: &mut [u32], map: &[u8], links: usize, share: u32)
     requires { Roomy links map.now share loads.old }
     ensures { ShareAdded map.now share loads.old loads.new links }
 {
-    let mut k = 0;
-    while k < links {
+    for k in 0..links {
         if bit_set(map, k) {
             loads[k] += share;
         }
-        k += 1;
     }
 }
 
@@ -74,19 +63,15 @@ fn count_trees(
     requires { Unloaded loads.old s.now l }
     ensures { TreesCounted s.now l weights.now loads.new result }
 {
-    let mut sum: u64 = 0;
-    let mut stop = l.trees;
-    let mut i = 0;
-    while i < stop {
+    let mut sum = 0;
+    for i in 0..l.trees {
         let at = record_at(l.records, l.links, i);
         let share = four(s, at);
         let map = tree_map(s, at, l.links);
-        if count_tree(loads, map, l.links, weights, share) {
-            sum += share as u64;
-        } else {
-            stop = i;
+        if !count_tree(loads, map, l.links, weights, share) {
+            break;
         }
-        i += 1;
+        sum += u64::from(share);
     }
     sum
 }
@@ -96,8 +81,7 @@ fn floor_from(shares: u64, weight: u64) -> u64
     requires { shares ≤ most_shares }
     ensures { result ≡ min weight (3 * shares) }
 {
-    let bound = 3 * shares;
-    if weight < bound { weight } else { bound }
+    weight.min(3 * shares)
 }
 
 // The floor that the trees of a sheet give, where `weight` is that of the cut found.

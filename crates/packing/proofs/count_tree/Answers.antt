@@ -17,8 +17,9 @@ pub add_share-requires : goal.add_share-requires
 add_share-requires c =
     let a = c.args in
     let p = c.requires in
+    let none = none-full (goal.at.add_share-requires c).Then-counts in
     record {
       mapped = p.mapped;
       sized = p.sized;
-      fits = λ k b. omega (arith, has_room a.map.now a.share a.weights.now a.loads.now a.links (none-full (goal.at.add_share-requires c).Then-counts) k b (p.carried k b), c.shared_slice_known-2-1.given k);
+      fits = λ k b. omega (arith, has_room a.map.now a.share a.weights.now a.loads.now a.links none k b (p.carried k b), c.type_inv.weights k);
     }

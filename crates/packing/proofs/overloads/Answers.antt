@@ -1,30 +1,26 @@
--- What is left to prove of `overloads`.
-use mathlib.Core.Path.{refl, sym, ◌∙◌}
-use native.Mathlib.Numerals.{add-one}
+-- `packing::overloads` meets its contract: `any` goes through the links below the count, and where no load is past its weight the test of a link
+-- is the definition's. Assumes nothing.
+use Prim.Native.Nat.{ℕ, ◌-◌}
+use mathlib.Core.Path.{refl, ◌∙◌}
+use mathlib.Core.Bool.{Bool, ◌&&◌}
+use lib.Dec.{ltb}
 use native.Mathlib.Omega.{arith}
-use Rattle.cuts.specs.Sums.{any_to}
-use Rattle.cuts.proofs.SumLaws.{any_to-at}
+use borrow.Author.Tests.{tests}
+use borrow.Author.Rules.{rules}
+use Rattle.std.proofs.lemmas.Iterator.{YieldsList-from_range}
+use Rattle.std.proofs.lemmas.Iterator.Search.{any_from_yields_List}
+use Rattle.cuts.proofs.SumLaws.{any_to_congr}
+use Rattle.arrays.specs.Lists.{entry}
+use Rattle.sheet.specs.Bytes.{map_bit}
 use Rattle.packing.specs.Loads.{overfull}
-use Rattle.packing.proofs.ShareLaws.{overfull-set, overfull-room, overfull-unset}
+use Rattle.packing.proofs.ShareLaws.{any_in_range, overfull-left}
 use Rattle.packing.proofs.overloads.Goals as goal
-use Rattle.packing.proofs.overloads.Goals.{else-weights-k, then-weights-k+else-bit_set}
 
-pub loop-k-init : goal.loop-k-init
-unfolding any_to
-loop-k-init c = (refl, omega arith)
-
-pub returns-then-bit_set : goal.returns-then-bit_set
-returns-then-bit_set c =
+pub returns : goal.returns
+returns c =
     let a = c.args in
-    let k = c.loop-k.k in
-    let carried = c.requires.carried k (omega arith) in
-    sym (any_to-at a.links (overfull a.map.now a.share a.weights.now a.loads.now) k (omega arith)
-    (overfull-set a.map.now a.share a.weights.now a.loads.now k (sym c.bit_set.ensures ∙ c.if-bit_set.true) (omega (arith, c.if-weights-k.true))))
-
-pub loop-k-preserved : goal.loop-k-preserved
-unfolding any_to
-loop-k-preserved c =
-    let a = c.args in
-    let k = c.loop-k.k in
-    let carried = c.requires.carried k (omega arith) in
-    elim c.if-weights-k.branch [ then-weights-k+else-bit_set w ↦ (rw (add-one, c.loop-k.invariant.0) (overfull-unset a.map.now a.share a.weights.now a.loads.now k (sym w.bit_set.ensures ∙ w.if-bit_set.false)), omega arith) | else-weights-k w ↦ (rw (add-one, c.loop-k.invariant.0) (overfull-room a.map.now a.share a.weights.now a.loads.now k (omega (arith, w.if-weights-k.false))), omega arith) ]
+    let test : ℕ → Bool = λ k. ltb (entry a.weights.now k - entry a.loads.now k) a.share && map_bit a.map.now k in
+    any_from_yields_List test _ _ _ c.any.ensures.ran (YieldsList-from_range 0 a.links a.links refl (omega arith)) (λ x b q k. search (rules, tests))
+    ∙ any_in_range test a.links
+    ∙ any_to_congr a.links test (overfull a.map.now a.share a.weights.now a.loads.now)
+    (λ k b. overfull-left a.map.now a.share a.weights.now a.loads.now k (c.requires.carried k b))
