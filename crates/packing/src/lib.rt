@@ -1,17 +1,17 @@
 // The packing bound: which trees count, the load that they put on each link, and the floor and the verdict that follow.
 #![tactic(auto)]
 
-ghost use Rattle.std.specs.Prelude.{◌≡◌, ◌*◌, ◌≤◌, min, drop};
+ghost use Rattle.std.specs.Prelude.{◌≡◌, ◌*◌, ◌≤◌, min, replicate};
 ghost use Rattle.cuts.specs.Sums.{any_to};
-ghost use Rattle.cuts.specs.Network.{Network};
+ghost use Rattle.cuts.specs.Limits.{most_links};
 ghost use Rattle.cuts.specs.Bound.{counted, floor};
 ghost use Rattle.cuts.specs.Answer.{verdict_of};
-ghost use Rattle.arrays.specs.Links.{Weighed};
 ghost use Rattle.sheet.specs.Sheet.{current};
-ghost use Rattle.arrays.specs.Records.{trees_from};
-ghost use Rattle.packing.specs.Loads.{TreesThere, Loading, overfull, Roomy, ShareAdded, TreeTested, most_shares, Unloaded, TreesCounted};
+ghost use Rattle.arrays.specs.Sheets.{network_of};
+ghost use Rattle.packing.specs.Loads.{Loading, overfull, Roomy, ShareAdded, TreeTested, most_shares, TreesCounted};
+ghost use Rattle.packing.specs.Verdicts.{verdict_number};
 
-use arrays::Layout;
+use arrays::sheets::Sheet;
 use format::limits::MOST_LINKS;
 use format::maps::bit_set;
 use format::numbers::four;
@@ -54,21 +54,18 @@ fn count_tree(loads: &mut [u32], map: &[u8], links: usize, weights: &[u32], shar
 
 // Counts the trees of a sheet up to the first that would load a link past its weight. No link has any load yet; afterwards the links have the
 // loads of the trees that count. Answers the sum of their shares.
-fn count_trees(
-    loads: &mut [u32; MOST_LINKS],
-    s: &[u8],
-    l: Layout,
-    weights: &[u32; MOST_LINKS],
-) -> u64
-    requires { Unloaded loads.old s.now l }
-    ensures { TreesCounted s.now l weights.now loads.new result }
+fn count_trees(loads: &mut [u32; MOST_LINKS], n: &Sheet) -> u64
+    requires { loads.old ≡ replicate most_links 0 }
+    ensures { TreesCounted n.now loads.new result }
 {
+    let l = n.layout;
+    let links = n.links;
     let mut sum = 0;
     for i in 0..l.trees {
         let at = record_at(l.records, l.links, i);
-        let share = four(s, at);
-        let map = tree_map(s, at, l.links);
-        if !count_tree(loads, map, l.links, weights, share) {
+        let share = four(n.bytes, at);
+        let map = tree_map(n.bytes, at, l.links);
+        if !count_tree(loads, map, l.links, &links.weights, share) {
             break;
         }
         sum += u64::from(share);
@@ -85,20 +82,33 @@ fn floor_from(shares: u64, weight: u64) -> u64
 }
 
 // The floor that the trees of a sheet give, where `weight` is that of the cut found.
-pub fn floor_of(s: &[u8], l: Layout, weights: &[u32; MOST_LINKS], weight: u64) -> u64
-    requires { TreesThere s.now l }
-    ensures { (net : Network) → Weighed net weights.now l.links
-        → result ≡ floor (counted current.rules.counting net
-        (trees_from net l.trees (drop l.records s.now))) weight }
+pub fn floor_of(n: &Sheet, weight: u64) -> u64
+    ensures { result
+        ≡ floor (counted current.rules.counting (network_of n.now) (network_of n.now).trees) weight }
 {
     let mut loads = [0u32; MOST_LINKS];
-    let shares = count_trees(&mut loads, s, l, weights);
+    let shares = count_trees(&mut loads, n);
     floor_from(shares, weight)
 }
 
-// 2 where the cut is certified to be a lightest one of the whole network, else 1.
-pub fn verdict(floor: u64, weight: u64) -> u8
-    ensures { result ≡ verdict_of floor weight }
-{
-    if floor == weight { 2 } else { 1 }
+// What is certified of the cut found.
+#[derive(Clone, Copy, PartialEq, Eq)]
+pub enum Verdict {
+    // It is a lightest one of those that the trees show.
+    TreesOnly = 1,
+    // It is a lightest one of the whole network.
+    Whole = 2,
+}
+
+impl Verdict {
+    // The verdict that a floor gives, where `weight` is that of the cut found.
+    pub fn of(floor: u64, weight: u64) -> Verdict
+        ensures { verdict_number result ≡ verdict_of floor weight }
+    {
+        if floor == weight {
+            Verdict::Whole
+        } else {
+            Verdict::TreesOnly
+        }
+    }
 }

@@ -3,12 +3,11 @@
 
 ghost use Rattle.cuts.specs.Answer.{answer};
 ghost use Rattle.sheet.specs.Sheet.{current};
-ghost use Rattle.arrays.specs.Records.{network_at, SheetHeld};
+ghost use Rattle.arrays.specs.Sheets.{network_of};
 ghost use Rattle.search_answer.specs.Answered.{AnswerSays};
 
-use arrays::Layout;
-use format::limits::MOST_LINKS;
-use packing::{floor_of, verdict};
+use arrays::sheets::Sheet;
+use packing::{Verdict, floor_of};
 use search_sheet::{Reported, search_trees};
 
 // The reported candidate with its side, the floor and the verdict.
@@ -16,26 +15,20 @@ use search_sheet::{Reported, search_trees};
 pub struct Answer {
     pub best: Reported,
     pub floor: u64,
-    pub verdict: u8,
+    pub verdict: Verdict,
 }
 
-// The answer of the network that was read from the sheet into the arrays.
-pub fn answer_sheet(
-    s: &[u8],
-    l: Layout,
-    ends: &[[u8; MOST_LINKS]; 2],
-    weights: &[u32; MOST_LINKS],
-) -> Answer
-    requires { SheetHeld current s.now ends.now weights.now l }
-    ensures { AnswerSays result (answer current.rules
-        (network_at s.now ends.now weights.now l)) }
+// The answer of a sheet that was read.
+pub fn answer_sheet(n: &Sheet) -> Answer
+    ensures { AnswerSays result (answer current.rules (network_of n.now)) }
 {
-    let best = search_trees(s, l, ends, weights);
+    let best = search_trees(n);
     let weight = best.found.weight;
-    let floor = floor_of(s, l, weights, weight);
+    let floor = floor_of(n, weight);
+    let verdict = Verdict::of(floor, weight);
     Answer {
-        best: best,
-        floor: floor,
-        verdict: verdict(floor, weight),
+        best,
+        floor,
+        verdict,
     }
 }
