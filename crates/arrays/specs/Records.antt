@@ -6,16 +6,14 @@
 --   map_at s p m            the link map, for m links, of the tree record at position p of s
 --   SheetHeld f s es ws l   the records of all trees stand in s where l says, there are no more trees and links than a sheet can have, and
 --                           the network that they and the arrays hold is one that a sheet of the format f gives
---   SheetListed s es ws ls ds l   sheet and arrays hold a network, its links are listed by node, and ds has the weight of each node's links
 use Rattle.std.specs.Prelude.{ℕ, ◌+◌, ◌*◌, ◌≤◌, List, [], length, take, drop}
 use Rattle.cuts.specs.Sums.{table}
 use Rattle.cuts.specs.Network.{Link, Tree, Network, link_count}
 use Rattle.cuts.specs.Limits.{most_links, most_trees}
 use Rattle.sheet.specs.Bytes.{Bytes}
-use Rattle.sheet.specs.Sheet.{Format, current, map_length, tree_length, tree_in, network, Accepted}
+use Rattle.sheet.specs.Sheet.{Format, map_length, tree_length, tree_in, network, Accepted}
 use Rattle.arrays.specs.Lists.{part}
 use Rattle.arrays.specs.Links.{LinkArrays, links_of}
-use Rattle.arrays.specs.ByNode.{Indexed, Degrees}
 use Rattle.arrays.specs.declared.Layout.{Layout}
 
 unfoldable pub trees_from : Network → ℕ → Bytes → List Tree
@@ -42,8 +40,3 @@ pub record SheetHeld (f : Format) (s : Bytes) (ends : List (List ℕ)) (ws : Lis
   pub few_trees : l.trees ≤ most_trees
   pub accepted : Accepted f (network_at s ends ws l)
   pub arrays : LinkArrays ends ws
-
-pub record SheetListed (s : Bytes) (ends : List (List ℕ)) (ws lists degrees : List ℕ) (l : Layout) : Type 0 where
-  pub held : SheetHeld current s ends ws l
-  pub indexed : Indexed (network_at s ends ws l) ends ws lists l.nodes l.links
-  pub degrees_are : Degrees (network_at s ends ws l) degrees

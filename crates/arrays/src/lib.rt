@@ -1,9 +1,16 @@
 // Networks, trees and sides as arrays hold them: what was read of a sheet, and the theory between the definitions and the code.
 #![tactic(auto)]
 
-pub mod sheets; // a sheet that was read, and its links by node
+pub mod listed_sheets; // a sheet that was read, with its links by node
+pub mod sheets; // a sheet that was read
 
-use format::limits::MOST_LINKS;
+use format::limits::{MOST_LINKS, MOST_NODES};
+
+// How many numbers say where each node's links begin: the last says where those of the last node end.
+pub const STARTS: usize = MOST_NODES + 1;
+
+// Each link stands among those of both its ends.
+pub const RUNS: usize = 2 * MOST_LINKS;
 
 // How many nodes, links and trees a sheet has, and the position of its first tree record.
 #[derive(Clone, Copy)]
@@ -19,4 +26,34 @@ pub struct Layout {
 pub struct Links {
     pub ends: [[u8; MOST_LINKS]; 2],
     pub weights: [u32; MOST_LINKS],
+}
+
+impl Links {
+    // Ones to be read.
+    pub fn empty() -> Links {
+        Links {
+            ends: [[0; MOST_LINKS]; 2],
+            weights: [0; MOST_LINKS],
+        }
+    }
+}
+
+// The links of a network by node: those of node x are the ones in `runs` from starts[x] up to, not including, starts[x + 1]; and the weight of
+// each node's links.
+#[derive(Drop)]
+pub struct Index {
+    pub starts: [u16; STARTS],
+    pub runs: [u16; RUNS],
+    pub degrees: [u64; MOST_NODES],
+}
+
+impl Index {
+    // One to be filled.
+    pub fn empty() -> Index {
+        Index {
+            starts: [0; STARTS],
+            runs: [0; RUNS],
+            degrees: [0; MOST_NODES],
+        }
+    }
 }
