@@ -1,20 +1,25 @@
 -- Link maps, a byte and a bit at a time: the ones of a byte are its set bits, and a test or a list goes on with one bit more.
 -- Assumes nothing.
-use Prim.Native.Nat.{ℕ, suc, ◌+◌, ◌*◌, ◌/◌, ◌%◌, ◌^◌, ◌≤◌, ◌<◌}
-use mathlib.Core.Path.{◌≡◌, sym, ap, ◌∙◌}
+use Prim.Native.Nat.{ℕ, zero, suc, ◌+◌, ◌-◌, ◌*◌, ◌/◌, ◌%◌, ◌^◌, ◌≤◌, ◌<◌}
+use mathlib.Core.Path.{◌≡◌, refl, sym, ap, ◌∙◌}
 use mathlib.Core.Logic.{◌⊎◌, inl, inr}
-use mathlib.Core.Bool.{true, false, ◌&&◌, and-eq-true_iff}
+use mathlib.Core.Bool.{Bool, true, false, ◌&&◌, and-eq-true_iff}
 use mathlib.Core.List.{List, append-nil}
+use native.Mathlib.Decide.{dec_le}
 use native.Mathlib.Omega.{arith}
 use native.Mathlib.Numerals.{add-one}
 use lib.Count.{ones, ones_step, ones-ones}
 use lib.Pow.{shr-shr}
 use lib.ListN.{length, get_or, take, set}
-use lib.Seq.{take-suc-set, take-set-le}
+use lib.Seq.{take-length, take-suc-set, take-set-le}
 use lib.Dec.{leb}
-use borrow.Author.Tests.{leb-true}
+use borrow.Author.Tests.{leb-true, le-leb}
+use Rattle.std.specs.List.{sum_by, list_any, range_with_len}
+use Rattle.std.proofs.lemmas.List.Folds.{list_any_more}
+use Rattle.std.proofs.lemmas.List.FromFn.{length-range_with_len, get_or-range_with_len}
+use Rattle.std.proofs.lemmas.List.Sums.{sum_by_more}
 use Rattle.cuts.specs.Sums.{sum_to, only, count_to, any_to, select}
-use Rattle.cuts.proofs.FlagLaws.{clash, truth}
+use Rattle.cuts.proofs.FlagLaws.{truth}
 use Rattle.cuts.proofs.SumLaws.{any_to-some}
 use Rattle.sheet.specs.Bytes.{Bytes, bit, map_bit}
 use Rattle.sheet.proofs.ByteLaws.{only-digit}
@@ -69,17 +74,53 @@ count-byte map i h =
     )
     (sym (byte_ones (get_or map i 0) (count_to (8 * i) (map_bit map)) h))
 
+count_bytes-to : (map : Bytes) → ((k : ℕ) → get_or map k 0 < 256) → (i : ℕ) → i ≤ length map → sum_by ones (take i map) ≡ count_to (8 * i) (map_bit map)
+unfolding sum_to
+count_bytes-to map small zero h = refl
+count_bytes-to map small (suc i) h =
+    let here : i < length map = omega arith in
+    let before = count_bytes-to map small i (omega arith) in
+    rw (← add-one i) (sum_by_more ones map i 0 here ∙ ap (λ (n : ℕ). n + ones (get_or map i 0)) before ∙ sym (count-byte map i (small i)))
+
+-- the bits of all bytes
+pub count_bytes : (map : Bytes) → ((k : ℕ) → get_or map k 0 < 256) → sum_by ones map ≡ count_to (8 * length map) (map_bit map)
+count_bytes map small = ap (sum_by ones) (sym (take-length map)) ∙ count_bytes-to map small (length map) (omega arith)
+
 -- ---- stray bits
 
-pub stray-none : (map : Bytes) (links n : ℕ) → ((k : ℕ) → links ≤ k → k < n → map_bit map k ≡ false) → any_to n (λ k. leb links k && map_bit map k) ≡ false
-stray-none map links n h = go (truth (any_to n (λ k. leb links k && map_bit map k)))
+-- the test of the numbers from a on
+abbrev from : ℕ → (ℕ → Bool) → ℕ → Bool
+from a p k = leb a k && p k
+
+none-before : (p : ℕ → Bool) (a n : ℕ) → n ≤ a → any_to n (from a p) ≡ false
+none-before p a n h = go (truth (any_to n (from a p)))
   where
-    go : (any_to n (λ k. leb links k && map_bit map k) ≡ true) ⊎ (any_to n (λ k. leb links k && map_bit map k) ≡ false) → any_to n (λ k. leb links k && map_bit map k) ≡ false
+    go : (any_to n (from a p) ≡ true) ⊎ (any_to n (from a p) ≡ false) → any_to n (from a p) ≡ false
     go (inr q) = q
     go (inl q) =
-        let s = any_to-some n (λ k. leb links k && map_bit map k) q in
-        let p = (and-eq-true_iff (leb links s.0) (map_bit map s.0)).0 s.2 in
-        clash p.1 (h s.0 (leb-true links s.0 p.0) s.1)
+        let s = any_to-some n (from a p) q in
+        let t = leb-true a s.0 ((and-eq-true_iff (leb a s.0) (p s.0)).0 s.2).0 in
+        absurd (omega (arith, s.1))
+
+any-taken : (p : ℕ → Bool) (a n i : ℕ) → i ≤ n → list_any p (take i (range_with_len a n)) ≡ any_to (a + i) (from a p)
+unfolding any_to
+any-taken p a n zero h = sym (none-before p a (a + 0) (omega arith))
+any-taken p a n (suc i) h =
+    let room : i < length (range_with_len a n) = rw length-range_with_len (omega arith) in
+    let before = any-taken p a n i (omega arith) in
+    let next : a + suc i ≡ suc (a + i) = omega arith in
+    let here = le-leb a (a + i) (omega arith) in
+    rw (next, here, ← before, ← get_or-range_with_len a n i 0 (omega arith), ← add-one i) (list_any_more p (range_with_len a n) i 0 room)
+
+pub any_from : (p : ℕ → Bool) (a b : ℕ) → list_any p (range_with_len a (b - a)) ≡ any_to b (λ k. leb a k && p k)
+any_from p a b = step (dec_le a b)
+  where
+    step : Dec (a ≤ b) → list_any p (range_with_len a (b - a)) ≡ any_to b (from a p)
+    step (yes h) =
+        let whole : take (b - a) (range_with_len a (b - a)) ≡ range_with_len a (b - a) = ap (λ (n : ℕ). take n (range_with_len a (b - a))) (sym (length-range_with_len a (b - a))) ∙ take-length (range_with_len a (b - a)) in
+        let end : a + (b - a) ≡ b = omega arith in
+        ap (list_any p) (sym whole) ∙ any-taken p a (b - a) (b - a) (omega arith) ∙ ap (λ (n : ℕ). any_to n (from a p)) end
+    step (no h) = let none : b - a ≡ 0 = omega arith in rw none (sym (none-before p a b (omega arith)))
 
 -- ---- listing
 

@@ -23,11 +23,6 @@ set-put old at a h b =
     let e : a % 256 ≡ a = omega arith in
     rw e (sets-eq (a ∷ []) old at (omega arith))
 
-pub set-set_put : (old : Bytes) (at a b : ℕ) → at + 2 ≤ length old → set (set old at a) (at + 1) b ≡ put at (a ∷ b ∷ []) old
-set-set_put old at a b h =
-    let e : at + 1 ≡ suc at = omega arith in
-    rw e (sets-eq (a ∷ b ∷ []) old at h)
-
 -- ---- bytes behind others
 
 pub put-put : (at : ℕ) (b c old : Bytes) → at ≤ length old → put (at + length b) c (put at b old) ≡ put at (b ++ c) old
@@ -59,10 +54,6 @@ put_fields-put at (w ∷ ws) (v ∷ vs) old h =
 
 -- ---- the bytes of a number
 
-pub bytes_of-two : (v : ℕ) → v < 65536 → bytes_of 2 v ≡ v % 256 ∷ v / 256 ∷ []
-unfolding bytes_of
-bytes_of-two v h = let e : v / 256 % 256 ≡ v / 256 = omega arith in rw e
-
 -- its low bytes, then its high bytes
 bytes_of_halves : (w x v : ℕ) → bytes_of (w + x) v ≡ bytes_of w (v % 2 ^ (8 * w)) ++ bytes_of x (v / 2 ^ (8 * w))
 unfolding bytes_of
@@ -71,12 +62,3 @@ bytes_of_halves (suc w) x v =
     let n : 8 * suc w ≡ 8 * w + 8 = omega arith in
     let m : 8 + 8 * w ≡ 8 * w + 8 = omega arith in
     rw (suc-add, n, mod-mod-pow v (8 * w) 8, field v (8 * w) 8, ← m, ← shr-shr v 8 (8 * w)) (ap (λ (bs : Bytes). v % 256 ∷ bs) (bytes_of_halves w x (v / 256)))
-
--- a number put half by half
-pub put_halves : (w at v : ℕ) (old : Bytes) → at ≤ length old
-    → put (at + w) (bytes_of w (v / 2 ^ (8 * w))) (put at (bytes_of w (v % 2 ^ (8 * w))) old) ≡ put at (bytes_of (w + w) v) old
-put_halves w at v old h =
-    let low : Bytes = bytes_of w (v % 2 ^ (8 * w)) in
-    let high : Bytes = bytes_of w (v / 2 ^ (8 * w)) in
-    let l : length low ≡ w = bytes_of-length w (v % 2 ^ (8 * w)) in
-    ap (λ (n : ℕ). put (at + n) high (put at low old)) (sym l) ∙ put-put at low high old h ∙ ap (λ (bs : Bytes). put at bs old) (sym (bytes_of_halves w w v))

@@ -19,14 +19,7 @@ pub fn stray_bit(map: &[u8], count: usize) -> bool
     requires { length map.now ≤ map_length most_links }
     ensures { result ≡ any_to (8 * length map.now) (λ k. leb count k && map_bit map.now k) }
 {
-    let mut k = count;
-    while k < 8 * map.len() {
-        if bit_set(map, k) {
-            return true;
-        }
-        k += 1;
-    }
-    false
+    (count..8 * map.len()).any(|k| bit_set(map, k))
 }
 
 // How many bits are set.
@@ -34,13 +27,7 @@ pub fn ones(map: &[u8]) -> usize
     requires { length map.now ≤ map_length most_links }
     ensures { result ≡ count_to (8 * length map.now) (map_bit map.now) }
 {
-    let mut sum = 0;
-    let mut i = 0;
-    while i < map.len() {
-        sum += u8::count_ones(map[i]) as usize;
-        i += 1;
-    }
-    sum
+    map.iter().map(|byte| byte.count_ones() as usize).sum()
 }
 
 // Lists the links below the link count whose bits are set, rising, and answers how many they are. Every link is written behind those listed,
@@ -50,13 +37,11 @@ pub fn list_members(members: &mut [u16], map: &[u8], links: usize) -> usize
     ensures { MembersListed map.now links members.new result }
 {
     let mut found = 0;
-    let mut k = 0;
-    while k < links {
+    for k in 0..links {
         members[found] = k as u16;
         if bit_set(map, k) {
             found += 1;
         }
-        k += 1;
     }
     found
 }

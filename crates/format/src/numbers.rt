@@ -8,7 +8,7 @@ pub fn two(s: &[u8], at: usize) -> usize
     requires { at + 2 ≤ length s.now }
     ensures { Is two_bytes (number 2 (drop at s.now)) result }
 {
-    wide(s[at]) + 256 * wide(s[at + 1])
+    usize::from(u16::from_le_bytes([s[at], s[at + 1]]))
 }
 
 // The number in the four bytes at a position.
@@ -16,7 +16,7 @@ pub fn four(s: &[u8], at: usize) -> u32
     requires { at + 4 ≤ length s.now }
     ensures { result ≡ number 4 (drop at s.now) }
 {
-    (two(s, at) + 65536 * two(s, at + 2)) as u32
+    u32::from_le_bytes([s[at], s[at + 1], s[at + 2], s[at + 3]])
 }
 
 // The number in the eight bytes at a position.
@@ -24,13 +24,7 @@ pub fn eight(s: &[u8], at: usize) -> u64
     requires { at + 8 ≤ length s.now }
     ensures { result ≡ number 8 (drop at s.now) }
 {
-    four(s, at) as u64 + 4294967296 * (four(s, at + 4) as u64)
-}
-
-fn wide(b: u8) -> usize
-    ensures { Is 256 b result }
-{
-    b as usize
+    u64::from_le_bytes(s[at..at + 8].try_into().unwrap())
 }
 
 // Writes a number into the two bytes at a position.
@@ -39,8 +33,7 @@ pub fn put_two(area: &mut [u8], at: usize, v: u16)
     ensures { area.new
         ≡ take at area.old ++ bytes_of 2 v ++ drop (at + 2) area.old }
 {
-    area[at] = (v % 256) as u8;
-    area[at + 1] = (v / 256) as u8;
+    area[at..at + 2].copy_from_slice(&v.to_le_bytes());
 }
 
 // Writes a number into the four bytes at a position.
@@ -49,8 +42,7 @@ pub fn put_four(area: &mut [u8], at: usize, v: u32)
     ensures { area.new
         ≡ take at area.old ++ bytes_of 4 v ++ drop (at + 4) area.old }
 {
-    put_two(area, at, (v % 65536) as u16);
-    put_two(area, at + 2, (v / 65536) as u16);
+    area[at..at + 4].copy_from_slice(&v.to_le_bytes());
 }
 
 // Writes a number into the eight bytes at a position.
@@ -59,6 +51,5 @@ pub fn put_eight(area: &mut [u8], at: usize, v: u64)
     ensures { area.new
         ≡ take at area.old ++ bytes_of 8 v ++ drop (at + 8) area.old }
 {
-    put_four(area, at, (v % 4294967296) as u32);
-    put_four(area, at + 4, (v / 4294967296) as u32);
+    area[at..at + 8].copy_from_slice(&v.to_le_bytes());
 }

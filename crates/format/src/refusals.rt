@@ -1,64 +1,88 @@
-// The refusal numbers of document 01, as document 02 changes them. Number 11 is not among them: every weight is allowed.
+// Why a sheet, an area, a map or a question is refused, and the number of each refusal (docs/REFUSALS.md). No refusal has number 11: every
+// weight is allowed.
+ghost use Rattle.std.specs.Prelude.{◌≡◌};
+ghost use Rattle.format.specs.Refusals.{refusal_number, returned};
 
-// The side area, or a side map, has fewer than 32 bytes.
-pub const SHORT_SIDE: u32 = 1;
+#[derive(Clone, Copy, Debug, PartialEq, Eq)]
+pub enum Refusal {
+    // The side area, or a side map, has fewer than 32 bytes.
+    ShortSide = 1,
 
-// The report area has fewer than 24 bytes.
-pub const SHORT_REPORT: u32 = 2;
+    // The report area has fewer than 24 bytes.
+    ShortReport = 2,
 
-// The sheet has fewer than 5 bytes.
-pub const SHORT_HEADER: u32 = 3;
+    // The sheet has fewer than 5 bytes.
+    ShortHeader = 3,
 
-// The node count is below 2 or above 256.
-pub const NODE_COUNT: u32 = 4;
+    // The node count is below 2 or above 256.
+    NodeCount = 4,
 
-// The link count is below the node count less 1, or above 2,048.
-pub const LINK_COUNT: u32 = 5;
+    // The link count is below the node count less 1, or above 2,048.
+    LinkCount = 5,
 
-// The tree count is 0 or above 32.
-pub const TREE_COUNT: u32 = 6;
+    // The tree count is 0 or above 32.
+    TreeCount = 6,
 
-// No map byte is left for a link.
-pub const NO_MAP_BYTE: u32 = 7;
+    // No map byte is left for a link.
+    NoMapByte = 7,
 
-// A map byte exceeds 15, or link 0's map byte is neither 7 nor 15.
-pub const MAP_BYTE: u32 = 8;
+    // A map byte exceeds 15, or link 0's map byte is neither 7 nor 15.
+    MapByte = 8,
 
-// The sheet ends before the last byte of a field whose bit stands.
-pub const CUT_OFF_FIELD: u32 = 9;
+    // The sheet ends before the last byte of a field whose bit stands.
+    CutOffField = 9,
 
-// An end is not below the node count, or both ends are equal.
-pub const LINK_ENDS: u32 = 10;
+    // An end is not below the node count, or both ends are equal.
+    LinkEnds = 10,
 
-// The sheet ends inside or before a tree record.
-pub const CUT_OFF_TREE: u32 = 12;
+    // The sheet ends inside or before a tree record.
+    CutOffTree = 12,
 
-// A link map has a bit set from the link count up.
-pub const STRAY_BIT: u32 = 13;
+    // A link map has a bit set from the link count up.
+    StrayBit = 13,
 
-// The ones in a link map are not the node count less 1.
-pub const MEMBER_COUNT: u32 = 14;
+    // The ones in a link map are not the node count less 1.
+    MemberCount = 14,
 
-// The member links do not join every node to node 0.
-pub const NOT_JOINED: u32 = 15;
+    // The member links do not join every node to node 0.
+    NotJoined = 15,
 
-// Bytes follow the last tree.
-pub const BYTES_LEFT: u32 = 16;
+    // Bytes follow the last tree.
+    BytesLeft = 16,
 
-// A link number is not below the link count.
-pub const NO_LINK: u32 = 18;
+    // A link number is not below the link count.
+    NoLink = 18,
 
-// The area cannot hold every side of the list, at 32 bytes a side.
-pub const SHORT_LIST: u32 = 19;
+    // The area cannot hold every side of the list, at 32 bytes a side.
+    ShortList = 19,
 
-// No 4-byte weight of the link makes the reported weight as large as wanted.
-pub const OUT_OF_REACH: u32 = 20;
+    // No 4-byte weight of the link makes the reported weight as large as wanted.
+    OutOfReach = 20,
 
-// A side map is empty, has node 0, or has a bit set from the node count up.
-pub const NO_SIDE: u32 = 21;
+    // A side map is empty, has node 0, or has a bit set from the node count up.
+    NoSide = 21,
 
-// A tree number is not below the tree count.
-pub const NO_TREE: u32 = 23;
+    // A tree number is not below the tree count.
+    NoTree = 23,
 
-// The area has fewer numbers than the tree has pairs.
-pub const SHORT_PAIRS: u32 = 24;
+    // The area has fewer numbers than the tree has pairs.
+    ShortPairs = 24,
+}
+
+impl From<Refusal> for u32 {
+    ghost from_gives = { λ refusal number. number ≡ refusal_number refusal };
+
+    fn from(refusal: Refusal) -> u32 {
+        refusal as u32
+    }
+}
+
+// The number that C is given: the refusal's, or 0 where nothing is refused.
+pub fn returned(answer: Result<(), Refusal>) -> u32
+    ensures { result ≡ returned answer }
+{
+    match answer {
+        Ok(()) => 0,
+        Err(refusal) => u32::from(refusal),
+    }
+}

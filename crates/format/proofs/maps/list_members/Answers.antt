@@ -46,10 +46,23 @@ module _ {map : Bytes} {links room : ℕ} {members : List ℕ} {found k : ℕ} (
 
 pub loop-k-init : goal.loop-k-init
 unfolding sum_to select
-loop-k-init c = record { counted = refl; listed = refl; sized = refl; free = omega (arith, c.requires.room); few = omega arith; within = omega arith; held = omega arith; most = omega arith; fits = c.requires.room }
+loop-k-init c = record {
+  counted = refl;
+  listed = refl;
+  sized = refl;
+  free = omega (arith, c.requires.room);
+  few = omega arith;
+  within = omega arith;
+  held = omega arith;
+  most = omega arith;
+  fits = c.requires.room;
+}
 
 pub loop-k-preserved : goal.loop-k-preserved
 loop-k-preserved c =
     let l = c.loop-k in
     let more = c.loop-k-test.true in
-    elim c.if-bit_set.branch [ then-bit_set w ↦ rw w.found-is (set_more l.invariant more (sym c.bit_set.ensures ∙ w.if-bit_set.true)) | else-bit_set w ↦ rw w.found-is (unset-more l.invariant more (sym c.bit_set.ensures ∙ w.if-bit_set.false)) ]
+    elim c.if-bit_set.branch [
+      | then-bit_set w ↦ rw w.found-is (set_more l.invariant more (sym c.bit_set.ensures ∙ w.if-bit_set.true))
+      | else-bit_set w ↦ rw w.found-is (unset-more l.invariant more (sym c.bit_set.ensures ∙ w.if-bit_set.false))
+    ]

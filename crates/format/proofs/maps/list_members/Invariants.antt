@@ -1,6 +1,6 @@
 -- `maps::list_members` meets its contract. The loop's invariant: of the links below k those whose bits are set are listed, and `found` is
 -- their number; link k is written behind them, and kept where its bit is set. Assumes nothing.
-use Prim.Native.Nat.{ℕ, ◌*◌, ◌-◌, ◌≤◌, ◌<◌}
+use Prim.Native.Nat.{ℕ, ◌*◌, ◌≤◌, ◌<◌}
 use mathlib.Core.Path.{◌≡◌}
 use mathlib.Core.List.{List}
 use lib.ListN.{length, take}
@@ -22,6 +22,3 @@ pub record Listing (map : Bytes) (links room : ℕ) (members : List ℕ) (found 
 
 abbrev pub invariant-loop-k : goal.invariant-loop-k
 invariant-loop-k l = Listing l.map l.links (length l.initial.members) l.members l.found l.k
-
-abbrev pub decreases-loop-k : goal.decreases-loop-k
-decreases-loop-k l = l.links - l.k

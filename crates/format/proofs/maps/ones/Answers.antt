@@ -1,24 +1,16 @@
--- What is left to prove of `maps::ones`.
-use Prim.Native.Nat.{◌≤◌}
-use mathlib.Core.Path.{refl}
+-- `maps::ones` meets its contract: the ones of all bytes are the bits that are set. Assumes nothing.
+use mathlib.Core.Path.{◌∙◌}
+use Rattle.std.proofs.Common.{rules, tests}
+use Rattle.std.proofs.lemmas.Iterator.{YieldsList-from_slice, YieldsList-from_map}
+use Rattle.std.proofs.lemmas.Iterator.Consumers.{sum_by_from_yields_List}
 use native.Mathlib.Omega.{arith}
-use lib.Count.{ones, ones-le}
-use lib.ListN.{get_or}
-use Rattle.cuts.specs.Sums.{sum_to}
-use Rattle.format.proofs.MapLaws.{count-byte}
+use lib.Count.{ones}
+use Rattle.format.proofs.MapLaws.{count_bytes}
 use Rattle.format.proofs.maps.ones.Goals as goal
-use Rattle.format.proofs.maps.ones.Goals.{After-shared_slice_known-1}
 
-few : (c : After-shared_slice_known-1) → ones (get_or c.args.map.now c.loop-i.i 0) ≤ 8
-few c = ones-le 8 _ (omega (arith, c.shared_slice_known-1.given c.loop-i.i))
-
-pub loop-i-init : goal.loop-i-init
-unfolding sum_to
-loop-i-init c = (refl, omega arith, omega arith, omega arith)
-
-pub loop-i-preserved : goal.loop-i-preserved
-loop-i-preserved c =
-    let l = c.loop-i in
-    let n = count-byte c.args.map.now l.i (omega (arith, c.shared_slice_known-1.given l.i)) in
-    let m = few c in
-    (omega arith, omega arith, omega arith, omega arith)
+pub returns : goal.returns
+returns c =
+    let map = c.args.map.now in
+    sum_by_from_yields_List ones map c.map.result _ c.sum.ensures.ran
+    (YieldsList-from_map _ ones (YieldsList-from_slice map cc) c.map.ensures.closure (λ x r q k. search (rules, tests)))
+    ∙ count_bytes map (λ k. omega (arith, c.type_inv.map k))

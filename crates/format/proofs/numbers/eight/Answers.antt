@@ -1,9 +1,12 @@
--- `bytes::eight` meets its contract: the number of eight bytes is that of the first four and 4,294,967,296 times that of the last four.
--- Assumes nothing.
-use Rattle.sheet.proofs.ByteLaws.{number_halves}
+-- `numbers::eight` meets its contract: the bytes that it takes are eight, and their number is their sum, each worth 256 times the one
+-- before it. Assumes nothing.
+use mathlib.Core.Path.{◌∙◌, ap}
+use Rattle.sheet.specs.Bytes.{number}
+use Rattle.std.proofs.lemmas.Result.{MatchResult-at_ok}
+use Rattle.format.proofs.NumberLaws.{number-eight, number-taken}
 use Rattle.format.proofs.numbers.eight.Goals as goal
 
 pub returns : goal.returns
 returns c =
-    let a = c.args in
-    rw (number_halves 4 4 a.at a.s.now, c.four.ensures, c.four-2.ensures)
+    let whole = MatchResult-at_ok _ _ _ c.unwrap.ensures c.try_into.ensures.1 in
+    c.from_le_bytes.ensures ∙ number-eight _ ∙ ap (number 8) whole.same ∙ number-taken 8 c.args.at c.args.s.now

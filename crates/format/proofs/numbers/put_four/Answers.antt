@@ -1,14 +1,8 @@
--- `format::numbers::put_four` meets its contract. The two halves of the number, put one behind the other, are its four bytes.
--- Assumes nothing.
-use Prim.Native.Nat.{◌+◌}
-use mathlib.Core.Path.{ap, ◌∙◌}
-use native.Mathlib.Omega.{arith}
-use Rattle.sheet.specs.Bytes.{bytes_of}
-use Rattle.format.proofs.PutLaws.{put, put_halves}
+-- `numbers::put_four` meets its contract: the bytes of the number stand over those of the area. Assumes nothing.
+use mathlib.Core.Path.{◌∙◌}
+use Rattle.format.proofs.NumberLaws.{four-bytes, written-over}
 use Rattle.format.proofs.numbers.put_four.Goals as goal
 
 pub returns : goal.returns
-unfolding bytes_of
 returns c =
-    let a = c.args in
-    c.put_two-2.ensures ∙ ap (put (a.at + 2) _) c.put_two.ensures ∙ put_halves 2 a.at a.v a.area.now (omega arith)
+    written-over c.args.at 4 c.args.v c.args.area.now c.copy_from_slice.ensures.after (c.to_le_bytes.ensures ∙ four-bytes c.args.v)

@@ -1,8 +1,8 @@
--- `format::numbers::put_two` meets its contract. Two stores in a row put both bytes, and the second is the number's last since the
--- number is below 65536. Assumes nothing.
-use native.Mathlib.Omega.{arith}
-use Rattle.format.proofs.PutLaws.{set-set_put, bytes_of-two}
+-- `numbers::put_two` meets its contract: the bytes of the number stand over those of the area. Assumes nothing.
+use mathlib.Core.Path.{◌∙◌}
+use Rattle.format.proofs.NumberLaws.{two-bytes, written-over}
 use Rattle.format.proofs.numbers.put_two.Goals as goal
 
 pub returns : goal.returns
-returns c = rw (bytes_of-two c.args.v (omega arith)) (set-set_put c.args.area.now c.args.at _ _ (omega arith))
+returns c =
+    written-over c.args.at 2 c.args.v c.args.area.now c.copy_from_slice.ensures.after (c.to_le_bytes.ensures ∙ two-bytes c.args.v)
