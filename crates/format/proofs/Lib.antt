@@ -1,3 +1,4 @@
 pub mod MapLaws
 pub mod NumberLaws
 pub mod PutLaws
+pub mod RefusalLaws

@@ -4,11 +4,12 @@
 ghost use Rattle.std.specs.Prelude.{◌≡◌};
 ghost use Rattle.sheet.specs.Reading.{first_failing};
 ghost use Rattle.sheet.specs.Sheet.{count_checks, header_record};
+ghost use Rattle.format.specs.Refusals.{returned};
 ghost use Rattle.read_header.specs.HeaderRead.{counts_of, header_says};
 
 use format::limits::*;
 use format::numbers::two;
-use format::refusals;
+use format::refusals::Refusal;
 
 #[derive(Clone, Copy)]
 pub struct Counts {
@@ -17,44 +18,34 @@ pub struct Counts {
     pub trees: usize,
 }
 
-#[derive(Drop)]
-pub enum Header {
-    Read(Counts),
-    Refused(u32),
-}
-
-// The refusal number of the counts, 0 where none is refused.
-fn count_refusal(c: Counts) -> u32
-    ensures { result ≡ first_failing (count_checks (counts_of c)) }
+// Whether a sheet can have these counts, or the first refusal.
+fn check_counts(c: Counts) -> Result<(), Refusal>
+    ensures { returned result ≡ first_failing (count_checks (counts_of c)) }
 {
     if c.nodes < LEAST_NODES || MOST_NODES < c.nodes {
-        return refusals::NODE_COUNT;
+        return Err(Refusal::NodeCount);
     }
     if c.links < c.nodes - 1 || MOST_LINKS < c.links {
-        return refusals::LINK_COUNT;
+        return Err(Refusal::LinkCount);
     }
     if c.trees == 0 || MOST_TREES < c.trees {
-        return refusals::TREE_COUNT;
+        return Err(Refusal::TreeCount);
     }
-    0
+    Ok(())
 }
 
-// The three counts, or the refusal number.
-pub fn read_header(s: &[u8]) -> Header
+// The three counts, or the first refusal.
+pub fn read_header(s: &[u8]) -> Result<Counts, Refusal>
     ensures { header_says s.now result ≡ header_record s.now }
 {
     if s.len() < HEADER_LENGTH {
-        return Header::Refused(refusals::SHORT_HEADER);
+        return Err(Refusal::ShortHeader);
     }
     let c = Counts {
         nodes: two(s, 0),
         links: two(s, 2),
-        trees: s[4] as usize,
+        trees: usize::from(s[4]),
     };
-    let n = count_refusal(c);
-    if n == 0 {
-        Header::Read(c)
-    } else {
-        Header::Refused(n)
-    }
+    check_counts(c)?;
+    Ok(c)
 }
