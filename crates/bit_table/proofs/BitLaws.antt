@@ -1,20 +1,23 @@
 -- The bits of a word: of two words joined by `|` and by `^`, of a power of two, those at the low end of a word that is not 0, and how many
 -- there are; and the bits of a list of words, after one word is written too.
 -- Assumes nothing.
-use Prim.Native.Nat.{ℕ, zero, suc, ◌+◌, ◌-◌, ◌*◌, ◌/◌, ◌%◌, ◌^◌, ◌≤◌, ◌<◌}
+use Prim.Native.Nat.{ℕ, zero, suc, max, ◌+◌, ◌-◌, ◌*◌, ◌/◌, ◌%◌, ◌^◌, ◌≤◌, ◌<◌}
 use mathlib.Core.Path.{◌≡◌, refl, sym, ap, ◌∙◌}
 use mathlib.Core.Bool.{Bool, true, false, ◌||◌, xor}
 use mathlib.Core.List.{List}
-use native.Mathlib.Nat.{pow-suc, div-eq_of_lt}
+use native.Mathlib.Nat.{div-eq_of_lt}
 use native.Mathlib.Decide.{dec_lt, ℕ_discrete}
 use native.Mathlib.Omega.{arith}
 use lib.ListN.{length, set, replicate, length-replicate, get_or-replicate, get_or-eq_default}
 use lib.Seq.{get_or-set_same, get_or-set_other}
-use lib.Pow.{pow_pos, pow_mono, pow-add, shr-shr, shr_le, shl-shr, shl_exact}
+use lib.Pow.{pow_mono, shr-shr, shr_le, shl_exact}
 use lib.Arith.{bin_ind}
-use lib.Bits.{bit_and, bit_or, bit_xor, and_step, and_self, or_shr, or_mod, xor_shr, xor_mod}
-use lib.Count.{under, count_trailing_zeros, ones, ones_step, ones-ones}
+use lib.Bits.{bit_and, bit_or, bit_xor, and_step, and_self}
+use lib.Count.{count_trailing_zeros, ones, ones_step, ones-ones}
 use lib.Dec.{eqb}
+use Rattle.std.specs.Int.{bit_at, w64}
+use Rattle.std.proofs.lemmas.Nat.Bits.{bit_at_or, bit_at_xor, bit_at-lt, bit_at-pow_same, bit_at-pow_other, bit_at-trailing_zeros}
+use Rattle.std.proofs.lemmas.Bool.Decides.{nat_tests}
 use borrow.Author.Tests.{eq-eqb, ne_eqb}
 use Rattle.cuts.specs.Sums.{sum_to, count_to}
 use Rattle.cuts.proofs.FlagLaws.{clash}
@@ -25,33 +28,17 @@ use Rattle.bit_table.specs.Bits.{word_bits, word_bit, bit_of}
 -- ---- the bits of a word
 
 pub word_bit-or : (a b k : ℕ) → word_bit (bit_or a b) k ≡ (word_bit a k || word_bit b k)
-word_bit-or a b k =
-    ap (λ (x : ℕ). eqb (x % 2) 1) (or_shr a b k) ∙ ap (λ (x : ℕ). eqb x 1) (or_mod (a / 2 ^ k) (b / 2 ^ k) 1)
-    ∙ digits (a / 2 ^ k % 2) (b / 2 ^ k % 2) (omega arith) (omega arith)
+word_bit-or a b k = rw (bit_at_or a b k) (digits (bit_at a k) (bit_at b k) (bit_at-lt a k) (bit_at-lt b k))
   where
-    digits : (x y : ℕ) → x < 2 → y < 2 → eqb (bit_or x y) 1 ≡ (eqb x 1 || eqb y 1)
-    digits zero zero p q = refl
-    digits zero (suc zero) p q = refl
-    digits (suc zero) zero p q = refl
-    digits (suc zero) (suc zero) p q = refl
-    digits (suc (suc x)) y p q = absurd (omega arith)
-    digits zero (suc (suc y)) p q = absurd (omega arith)
-    digits (suc zero) (suc (suc y)) p q = absurd (omega arith)
+    digits : (x y : ℕ) → x < 2 → y < 2 → eqb (max x y) 1 ≡ (eqb x 1 || eqb y 1)
+    digits x y p q = grind (arith, nat_tests)
 
 pub word_bit-xor : (a b k : ℕ) → word_bit (bit_xor a b) k ≡ xor (word_bit a k) (word_bit b k)
 unfolding xor
-word_bit-xor a b k =
-    ap (λ (x : ℕ). eqb (x % 2) 1) (xor_shr a b k) ∙ ap (λ (x : ℕ). eqb x 1) (xor_mod (a / 2 ^ k) (b / 2 ^ k) 1)
-    ∙ digits (a / 2 ^ k % 2) (b / 2 ^ k % 2) (omega arith) (omega arith)
+word_bit-xor a b k = rw (bit_at_xor a b k) (digits (bit_at a k) (bit_at b k) (bit_at-lt a k) (bit_at-lt b k))
   where
-    digits : (x y : ℕ) → x < 2 → y < 2 → eqb (bit_xor x y) 1 ≡ xor (eqb x 1) (eqb y 1)
-    digits zero zero p q = refl
-    digits zero (suc zero) p q = refl
-    digits (suc zero) zero p q = refl
-    digits (suc zero) (suc zero) p q = refl
-    digits (suc (suc x)) y p q = absurd (omega arith)
-    digits zero (suc (suc y)) p q = absurd (omega arith)
-    digits (suc zero) (suc (suc y)) p q = absurd (omega arith)
+    digits : (x y : ℕ) → x < 2 → y < 2 → eqb ((x + y) % 2) 1 ≡ xor (eqb x 1) (eqb y 1)
+    digits x y p q = grind (arith, nat_tests)
 
 -- the bits from r on
 pub word_bit-shift : (w r d : ℕ) → word_bit (w / 2 ^ r) d ≡ word_bit w (r + d)
@@ -65,56 +52,17 @@ word_bit_past w n k h l =
     rw e
 
 pub word_bit_power : (j k : ℕ) → word_bit (2 ^ j) k ≡ eqb k j
-word_bit_power j k = go (dec_lt k j) (dec_lt j k)
+word_bit_power j k = go (ℕ_discrete k j)
   where
-    go : Dec (k < j) → Dec (j < k) → word_bit (2 ^ j) k ≡ eqb k j
-    go (yes b) d =
-        let s : suc (j - suc k) + k ≡ j = omega arith in
-        let e : 2 ^ j / 2 ^ k ≡ 2 ^ (j - suc k) * 2
-        = ap (λ (x : ℕ). 2 ^ x / 2 ^ k) (sym s) ∙ ap (λ (x : ℕ). x / 2 ^ k) (pow-add 2 (suc (j - suc k)) k)
-        ∙ shl-shr (2 ^ suc (j - suc k)) k ∙ pow-suc 2 (j - suc k) in
-        let z : 2 ^ j / 2 ^ k % 2 ≡ 0 = omega arith in
-        rw (z, ne_eqb k j (λ q. omega arith))
-    go (no b) (yes d) =
-        word_bit_past (2 ^ j) (suc j) k (let p = pow-suc 2 j in let q = pow_pos j in omega arith) d ∙ sym (ne_eqb k j (λ q. omega arith))
-    go (no b) (no d) =
-        let q : k ≡ j = omega arith in
-        let e : 2 ^ j / 2 ^ j ≡ 1 = ap (λ (x : ℕ). x / 2 ^ j) (let p : 2 ^ j ≡ 1 * 2 ^ j = omega arith in p) ∙ shl-shr 1 j in
-        rw (q, e, eq-eqb j j refl)
+    go : Dec (k ≡ j) → word_bit (2 ^ j) k ≡ eqb k j
+    go (yes e) = rw (e, bit_at-pow_same j, eq-eqb j j refl)
+    go (no d) = rw (bit_at-pow_other j k d, ne_eqb k j d)
 
 -- what `1 << r` is
 pub word_bit-one : (r k : ℕ) → r < word_bits → word_bit (1 * 2 ^ r % 2 ^ word_bits) k ≡ eqb k r
 word_bit-one r k h =
     let one : 1 * 2 ^ r ≡ 2 ^ r = omega arith in
     ap (λ (w : ℕ). word_bit w k) (shl_exact {a = 1} 1 r word_bits (omega arith) (omega arith) ∙ one) ∙ word_bit_power r k
-
--- ---- the low end of a word
-
-word_bit-suc : (n k : ℕ) → word_bit n (suc k) ≡ word_bit (n / 2) k
-word_bit-suc n k = let s : 1 + k ≡ suc k = omega arith in ap (word_bit n) (sym s) ∙ sym (word_bit-shift n 1 k)
-
-pub trailing_unset : (k n d : ℕ) → d < count_trailing_zeros k n → word_bit n d ≡ false
-unfolding count_trailing_zeros
-trailing_unset zero n d h = absurd (omega arith)
-trailing_unset (suc k) n d h = go (n % 2) refl (omega arith) d h (trailing_unset k (n / 2))
-  where
-    go : (b : ℕ) → n % 2 ≡ b → b < 2 → (d : ℕ) → d < under b (count_trailing_zeros k (n / 2))
-        → ((d : ℕ) → d < count_trailing_zeros k (n / 2) → word_bit (n / 2) d ≡ false) → word_bit n d ≡ false
-    go zero e l zero h r = let o : n / 2 ^ 0 % 2 ≡ 0 = omega arith in rw o
-    go zero e l (suc d) h r = word_bit-suc n d ∙ r d (omega arith)
-    go (suc zero) e l d h r = absurd (omega arith)
-    go (suc (suc b)) e l d h r = absurd (omega arith)
-
-pub trailing_set : (k n : ℕ) → 0 < n → n < 2 ^ k → word_bit n (count_trailing_zeros k n) ≡ true
-unfolding count_trailing_zeros
-trailing_set zero n p h = absurd (omega arith)
-trailing_set (suc k) n p h = go (n % 2) refl (omega arith) (λ q. trailing_set k (n / 2) q (let s = pow-suc 2 k in omega arith))
-  where
-    go : (b : ℕ) → n % 2 ≡ b → b < 2 → (0 < n / 2 → word_bit (n / 2) (count_trailing_zeros k (n / 2)) ≡ true)
-        → word_bit n (under b (count_trailing_zeros k (n / 2))) ≡ true
-    go zero e l r = word_bit-suc n (count_trailing_zeros k (n / 2)) ∙ r (omega arith)
-    go (suc zero) e l r = let o : n / 2 ^ 0 % 2 ≡ 1 = omega arith in rw o
-    go (suc (suc b)) e l r = absurd (omega arith)
 
 -- ---- a list of words
 
@@ -162,14 +110,14 @@ module _ (words : List ℕ) (q : ℕ) where
       ahead-at k l (omega arith) ∙ ap (λ (x : ℕ). word_bit x (k - q)) e ∙ word_bit_past 0 0 (k - q) (omega arith) (omega arith)
 
   module _ (small : entry words (q / word_bits) < 2 ^ word_bits) (some : ahead words q ≡ 0 → ⊥) where
-    first-set : word_bit (ahead words q) (zeros words q) ≡ true
-    first-set =
+    lowest : (bit_at (ahead words q) (zeros words q) ≡ 1) × ((i : ℕ) → i < zeros words q → bit_at (ahead words q) i ≡ 0)
+    lowest =
         let l = shr_le (entry words (q / word_bits)) (q % word_bits) in
-        trailing_set word_bits (ahead words q) (positive (ahead words q) some) (omega arith)
-      where
-        positive : (n : ℕ) → (n ≡ 0 → ⊥) → 0 < n
-        positive zero h = absurd (h refl)
-        positive (suc n) h = omega arith
+        let z = bit_at-trailing_zeros w64 (ahead words q) (omega arith) (omega arith) in
+        (z.1, z.2)
+
+    first-set : word_bit (ahead words q) (zeros words q) ≡ true
+    first-set = rw lowest.0
 
     pub first-inside : q % word_bits + zeros words q < word_bits
     first-inside = go (dec_lt (q % word_bits + zeros words q) word_bits)
@@ -186,7 +134,7 @@ module _ (words : List ℕ) (q : ℕ) where
     pub none-before_first : (k : ℕ) → q ≤ k → k < q + zeros words q → bit_of words k ≡ false
     none-before_first k l b =
         let i = first-inside in
-        ahead-at k l (omega arith) ∙ trailing_unset word_bits (ahead words q) (k - q) (omega arith)
+        ahead-at k l (omega arith) ∙ rw (lowest.1 (k - q) (omega arith))
 
 -- no bit of a word that is 0 is set
 pub bit_of-none : (words : List ℕ) (k : ℕ) → entry words (k / word_bits) ≡ 0 → bit_of words k ≡ false
