@@ -17,11 +17,8 @@ pub fn sum_layers(layers: &mut [u64], last: usize)
     requires { Summable layers.old last }
     ensures { LayersSummed last layers.old layers.new }
 {
-    let end = LAYER * (last + 1);
-    let mut i = LAYER;
-    while i < end {
-        layers[i] = layers[i] ^ layers[i - LAYER];
-        i += 1;
+    for i in LAYER..LAYER * (last + 1) {
+        layers[i] ^= layers[i - LAYER];
     }
 }
 

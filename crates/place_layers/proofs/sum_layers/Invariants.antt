@@ -10,9 +10,6 @@ use Rattle.place_layers.proofs.sum_layers.Given as goal
 
 abbrev pub invariant-loop-i : goal.invariant-loop-i
 invariant-loop-i l =
-    (length l.layers ≡ layers_length) × (layer_words ≤ l.i) × (l.i ≤ l.end) × ((k : ℕ) → k < layer_words → entry l.layers k ≡ entry l.initial.layers k)
+    (length l.layers ≡ layers_length) × ((k : ℕ) → k < layer_words → entry l.layers k ≡ entry l.initial.layers k)
     × ((k : ℕ) → k < l.i → layer_words ≤ k → entry l.layers k ≡ bit_xor (entry l.initial.layers k) (entry l.layers (k - layer_words)))
     × ((k : ℕ) → l.i ≤ k → entry l.layers k ≡ entry l.initial.layers k)
-
-abbrev pub decreases-loop-i : goal.decreases-loop-i
-decreases-loop-i l = l.end - l.i
