@@ -6,16 +6,14 @@
 --   EitherCount b u v r      r is the number of nodes in the side of the links at the places u and v, in either order
 --   SideCount b u v r        r is the number of nodes in the side of the links at the places u and v, of any tree kept with the stops b
 --   StandsAt nodes l k p     p is a place behind the root's, and the links l have the link k there
---   PlaceFound nodes l k r   so it is of r where k is a member of a tree of so many nodes, kept with the links l; whatever k is, r is a
---                            place
+--   NoPlace nodes l k        no place behind the root's has the link k, in the links l
 use Rattle.std.specs.Prelude.{◌≡◌, ℕ, ◌<◌, List}
 use Rattle.cuts.specs.Network.{Network, Tree}
 use Rattle.cuts.specs.Limits.{most_nodes}
 use Rattle.cuts.specs.Cut.{size}
-use Rattle.cuts.specs.Tree.{Member}
 use Rattle.cuts.specs.Candidate.{side_of}
 use Rattle.arrays.specs.Lists.{entry}
-use Rattle.arrays.specs.Kept.{LinksAt, Kept}
+use Rattle.arrays.specs.Kept.{Kept}
 use Rattle.tree_places.specs.Places.{StopsKnown}
 use Rattle.search_order.specs.Visits.{handle_at}
 
@@ -56,6 +54,5 @@ pub record StandsAt (nodes : ℕ) (links : List ℕ) (link p : ℕ) : Type 0 whe
   pub within : p < nodes
   pub is : entry links p ≡ link
 
-pub record PlaceFound (nodes : ℕ) (links : List ℕ) (link r : ℕ) : Type 0 where
-  pub place : r < most_nodes
-  pub stands : (net : Network) (t : Tree) → LinksAt net t links → net.nodes ≡ nodes → Member net t link → StandsAt nodes links link r
+abbrev pub NoPlace : ℕ → List ℕ → ℕ → Type 0
+NoPlace nodes links link = (p : ℕ) → StandsAt nodes links link p → ⊥

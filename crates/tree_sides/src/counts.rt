@@ -3,14 +3,13 @@
 ghost use Rattle.tree_sides.specs.Sides.{OnePlace, TwoPlaces, EitherPlaces, SideCount, EitherCount};
 
 use format::limits::MOST_NODES;
-use std::num::{wrapping_add_u16, wrapping_sub_u16};
 
 // The number of nodes below the link at the place `u`: those from its own place up to its stop.
 pub fn single_count(stops: &[u16; MOST_NODES], u: usize) -> u16
     requires { OnePlace stops.now u }
     ensures { SideCount stops.now u u result }
 {
-    wrapping_sub_u16(stops[u], u as u16)
+    stops[u].wrapping_sub(u as u16)
 }
 
 // The number of nodes below exactly one of the links at the places `u` and `v`: where `v` lies below `u`, those below `u` less those below
@@ -22,9 +21,9 @@ pub fn pair_count(stops: &[u16; MOST_NODES], u: usize, v: usize) -> u16
     let of_u = single_count(stops, u);
     let of_v = single_count(stops, v);
     if v < stops[u] as usize {
-        return wrapping_sub_u16(of_u, of_v);
+        return of_u.wrapping_sub(of_v);
     }
-    wrapping_add_u16(of_u, of_v)
+    of_u.wrapping_add(of_v)
 }
 
 // The number of nodes in the side of the link at the place `u` alone where `v` is equal to it, else of the links at both, in either order.

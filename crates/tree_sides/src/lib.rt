@@ -3,14 +3,14 @@
 
 pub mod counts; // the number of nodes
 
-ghost use Rattle.std.specs.Prelude.{◌≡◌, ◌≤◌};
+ghost use Rattle.std.specs.Prelude.{◌≡◌, ◌≤◌, MatchOption};
 ghost use Rattle.cuts.specs.Network.{Network, Tree};
 ghost use Rattle.cuts.specs.Limits.{most_nodes};
 ghost use Rattle.cuts.specs.Candidate.{Fits, side_of};
 ghost use Rattle.arrays.specs.Kept.{Kept};
 ghost use Rattle.search_order.specs.Choice.{chosen};
 ghost use Rattle.place_layers.specs.Layers.{FourLayers};
-ghost use Rattle.tree_sides.specs.Sides.{EitherPlaces, PlaceFound};
+ghost use Rattle.tree_sides.specs.Sides.{EitherPlaces, NoPlace, StandsAt};
 ghost use Rattle.tree_sides.specs.NodeLayers.{NodesPlaceable, NodesBefore, odd_words, SideWords, SideAt, SideGiven};
 
 use bit_table::flip_bit;
@@ -21,19 +21,17 @@ use tree_places::Places;
 // The words of a side, which has a bit for each node that there may be, as a layer has.
 pub const SIDE_WORDS: usize = LAYER;
 
-// The place of a member's lower end, 0 where no place has the link.
-fn place_of(nodes: usize, links: &[u16; MOST_NODES], link: u16) -> usize
+// The place of a member's lower end, `None` where no place has the link.
+fn place_of(nodes: usize, links: &[u16; MOST_NODES], link: u16) -> Option<usize>
     requires { nodes ≤ most_nodes }
-    ensures { PlaceFound nodes links.now link result }
+    ensures { MatchOption result (NoPlace nodes links.now link) (StandsAt nodes links.now link) }
 {
-    let mut p = 1;
-    while p < nodes {
+    for p in 1..nodes {
         if links[p] == link {
-            return p;
+            return Some(p);
         }
-        p += 1;
     }
-    0
+    None
 }
 
 // Sets the bit of each node in the layers of the places behind its own; no bit is set before.
@@ -41,11 +39,8 @@ pub fn node_layers(layers: &mut [u64], nodes: usize, place: &[u8; MOST_NODES])
     requires { NodesPlaceable layers.old nodes place.now }
     ensures { NodesBefore nodes place.now layers.new }
 {
-    let mut x = 0;
-    while x < nodes {
-        let p = place[x] as usize;
-        flip_bit(layers, MOST_NODES * (p + 1) + x);
-        x += 1;
+    for x in 0..nodes {
+        flip_bit(layers, MOST_NODES * (place[x] as usize + 1) + x);
     }
     sum_layers(layers, nodes);
 }
@@ -55,12 +50,7 @@ fn odd_words(layers: &[u64; LAYERS], a: usize, b: usize, c: usize, d: usize) -> 
     requires { FourLayers a b c d }
     ensures { result ≡ odd_words layers.now a b c d }
 {
-    [
-        odd_word(layers, a, b, c, d, 0),
-        odd_word(layers, a, b, c, d, 1),
-        odd_word(layers, a, b, c, d, 2),
-        odd_word(layers, a, b, c, d, 3),
-    ]
+    std::array::from_fn(|j| odd_word(layers, a, b, c, d, j))
 }
 
 // The side of the links at two places, of one link where these are equal, from the layers of the tree's nodes.
@@ -81,19 +71,20 @@ pub fn side_at(
     odd_words(layers, to, u, end, v)
 }
 
-// The side of the member `first` alone where `second` is equal to it, else of both.
+// The side of the member `first` alone where `second` is equal to it, else of both; without a node where no place has one of them.
 pub fn side_of(nodes: usize, p: Places, first: u16, second: u16) -> [u64; SIDE_WORDS]
     requires { SideGiven nodes p.stops }
     ensures { (net : Network) (t : Tree) → Kept net t p.place p.node p.stops p.links
         → net.nodes ≡ nodes → Fits net t (chosen first second)
         → SideWords result (side_of net t (chosen first second)) }
 {
-    let place = p.place;
-    let mut layers = [0u64; LAYERS];
-    node_layers(&mut layers, nodes, &place);
-    let stops = p.stops;
-    let links = p.links;
-    let u = place_of(nodes, &links, first);
-    let v = place_of(nodes, &links, second);
-    side_at(&layers, &stops, u, v)
+    let (Some(u), Some(v)) = (
+        place_of(nodes, &p.links, first),
+        place_of(nodes, &p.links, second),
+    ) else {
+        return [0; SIDE_WORDS];
+    };
+    let mut layers = [0; LAYERS];
+    node_layers(&mut layers, nodes, &p.place);
+    side_at(&layers, &p.stops, u, v)
 }

@@ -13,15 +13,20 @@ members-of : {net : Network} {t : Tree} (first second : ℕ) → Fits net t (cho
 members-of {net} {t} first second fits = go (truth (eqb first second))
   where
     go : (eqb first second ≡ true) ⊎ (eqb first second ≡ false) → Member net t first × Member net t second
-    go (inl q) = let c : chosen first second ≡ one first = rw q in let m : Member net t first = subst (Fits net t) c fits in (m, subst (Member net t) (eqb-true first second q) m)
-    go (inr q) = let c : chosen first second ≡ two first second = rw q in let m : Fits net t (two first second) = subst (Fits net t) c fits in (m.1, m.2)
+    go (inl q) =
+        let c : chosen first second ≡ one first = rw q in
+        let m : Member net t first = subst (Fits net t) c fits in
+        (m, subst (Member net t) (eqb-true first second q) m)
+    go (inr q) =
+        let c : chosen first second ≡ two first second = rw q in
+        let m : Fits net t (two first second) = subst (Fits net t) c fits in
+        (m.1, m.2)
 
 pub returns : goal.returns
 returns c net t k n fits =
     let a = c.args in
-    let m = members-of a.first a.second fits in
-    let u = c.place_of-u.ensures.stands net t k.links-at n m.0 in
-    let v = c.place_of-v.ensures.stands net t k.links-at n m.1 in
+    let u = c.in-Some-Some.ensures in
+    let v = c.in-Some-Some.ensures' in
     let layers = c.node_layers in
     subst (λ (h : Handle). SideWords c.side_at.result (side_of net t h)) (ap₂ chosen u.is v.is)
     (c.side_at.ensures net t a.p.place a.p.node a.p.links k

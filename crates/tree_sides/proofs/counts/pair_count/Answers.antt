@@ -35,10 +35,10 @@ pub returns-then-v-stops : goal.returns-then-v-stops
 returns-then-v-stops c net t place node links k z b =
     let n = known (goal.at.returns-then-v-stops c).After-single_count-of_v net t place node links k z b in
     let nested = pair_nested k c.args.u c.args.v z c.requires.rises b c.if-v-stops.true in
-    omega (arith, c.wrapping_sub_u16.ensures, n.0, n.1, n.2, n.3)
+    omega (arith, n.0, n.1, n.2, n.3)
 
 pub returns : goal.returns
 returns c net t place node links k z b =
     let n = known (goal.at.returns c).After-single_count-of_v net t place node links k z b in
     let apart = pair-apart k c.args.u c.args.v z c.requires.rises b c.if-v-stops.false in
-    omega (arith, c.wrapping_add_u16.ensures, n.0, n.1, n.3, n.4, n.5)
+    omega (arith, n.0, n.1, n.3, n.4, n.5)

@@ -9,4 +9,4 @@ returns c net t place node links k z b =
     let u = c.args.u in
     let small = c.requires.stops_known u c.requires.place in
     let count = single-count k u z b in
-    omega (arith, c.wrapping_sub_u16.ensures)
+    omega arith
