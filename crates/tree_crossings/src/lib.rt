@@ -1,15 +1,14 @@
 // The sides of one tree that cross at most two members of another, struck out of a table of its cells.
 #![tactic(auto)]
 
-ghost use Rattle.std.specs.Prelude.{◌≡◌, Bool, ◌&&◌, not, ◌+◌, ◌≤◌, min, leb};
-ghost use Rattle.cuts.specs.Sums.{count_to, table as flagTable};
+ghost use Rattle.std.specs.Prelude.{◌≡◌, Bool, ◌&&◌, not, leb};
+ghost use Rattle.cuts.specs.Sums.{table as flagTable};
 ghost use Rattle.cuts.specs.Network.{Network, Tree, link_count};
 ghost use Rattle.cuts.specs.Cut.{crossings};
 ghost use Rattle.cuts.specs.Candidate.{Handle, side_of};
 ghost use Rattle.arrays.specs.Links.{first_ends, second_ends, Held};
 ghost use Rattle.sheet.specs.Bytes.{map_bit};
 ghost use Rattle.tree_ranks.specs.Ranks.{RankedTree};
-ghost use Rattle.bit_table.specs.Bits.{word_bits, word_bit};
 ghost use Rattle.bit_table.specs.Cells.{Tabled};
 ghost use Rattle.place_layers.specs.Layers.{FourLayers};
 ghost use Rattle.tree_crossings.specs.Layers.{EndPlaced, PlaceOf, Placeable, EndsFlipped, EndsParted, odd_count};
@@ -43,14 +42,12 @@ fn flip_ends(
     ensures { EndsFlipped firsts.now seconds.now members.now count
         place.now layers.new }
 {
-    let mut r = 0;
-    while r < count {
+    for r in 0..count {
         let link = members[r] as usize;
         let first = place_of(firsts, place, link);
         let second = place_of(seconds, place, link);
         flip_bit(layers, MOST_NODES * (first + 1) + r);
         flip_bit(layers, MOST_NODES * (second + 1) + r);
-        r += 1;
     }
 }
 
@@ -73,36 +70,17 @@ fn mark_layers(
     sum_layers(layers, nodes);
 }
 
-// A count with the set bits of a word added, but no more than three.
-fn few_more(word: u64, count: usize) -> usize
-    requires { count ≤ 2 }
-    ensures { result ≡ min (count + count_to word_bits (word_bit word)) 3 }
-{
-    let mut left = word;
-    let mut sum = count;
-    while left != 0 {
-        if sum == 2 {
-            return 3;
-        }
-        left = left & (left - 1);
-        sum += 1;
-    }
-    sum
-}
-
 // Whether at most two bits are set in an odd number of four layers.
 fn crosses_few(layers: &[u64; LAYERS], a: usize, b: usize, c: usize, d: usize) -> bool
     requires { FourLayers a b c d }
     ensures { result ≡ leb (odd_count layers.now a b c d) 2 }
 {
     let mut count = 0;
-    let mut j = 0;
-    while j < LAYER {
-        count = few_more(odd_word(layers, a, b, c, d, j), count);
+    for j in 0..LAYER {
+        count += odd_word(layers, a, b, c, d, j).count_ones();
         if count > 2 {
             return false;
         }
-        j += 1;
     }
     true
 }
@@ -117,12 +95,12 @@ fn cell_struck(layers: &[u64; LAYERS], stops: &[u16], at: &[u8], q: usize) -> bo
     let second = q % MOST_NODES;
     let u = at[first] as usize;
     let to = stops[u] as usize;
-    let mut v = 0;
-    let mut end = 0;
-    if first != second {
-        v = at[second] as usize;
-        end = stops[v] as usize;
-    }
+    let (v, end) = if first == second {
+        (0, 0)
+    } else {
+        let v = at[second] as usize;
+        (v, stops[v] as usize)
+    };
     crosses_few(layers, to, u, end, v)
 }
 
@@ -160,7 +138,6 @@ pub fn strike_tree(
 {
     let mut members = [0u16; MOST_NODES];
     let count = list_members(&mut members, map, links);
-    let place = r.place;
     let mut layers = [0u64; LAYERS];
     mark_layers(
         &mut layers,
@@ -169,9 +146,7 @@ pub fn strike_tree(
         &ends[1],
         &members,
         count,
-        &place,
+        &r.place,
     );
-    let stops = r.stops;
-    let at = r.at;
-    strike(table, &layers, nodes, &stops, &at);
+    strike(table, &layers, nodes, &r.stops, &r.at);
 }

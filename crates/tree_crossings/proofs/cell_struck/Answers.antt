@@ -13,4 +13,7 @@ unfolding side_crossings
 returns c =
     let a = c.args in
     c.crosses_few.ensures
-    ∙ elim c.if-first-second.branch [ then-first-second w ↦ rw (w.v-is, w.end-is, ne_eqb (a.q / most_nodes) (a.q % most_nodes) w.if-first-second.true) | else-first-second w ↦ rw (w.v-is, w.end-is, eq-eqb (a.q / most_nodes) (a.q % most_nodes) w.if-first-second.false) ]
+    ∙ elim c.if-first-second.branch [
+      | then-first-second w ↦ rw (w.v-is, eq-eqb (a.q / most_nodes) (a.q % most_nodes) w.if-first-second.true)
+      | else-first-second w ↦ rw (w.v-is, ne_eqb (a.q / most_nodes) (a.q % most_nodes) w.if-first-second.false)
+    ]

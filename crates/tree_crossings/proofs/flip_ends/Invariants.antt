@@ -1,7 +1,6 @@
 -- `tree_crossings::flip_ends` meets its contract. The loop's invariant: the bits of the members before r are set behind their ends, and no
 -- other is.
 -- Assumes nothing.
-use Prim.Native.Nat.{◌-◌, ◌≤◌}
 use mathlib.Core.Path.{◌≡◌}
 use lib.ListN.{length}
 use Rattle.place_layers.specs.Layers.{layers_length}
@@ -9,8 +8,7 @@ use Rattle.tree_crossings.specs.Layers.{EndsFlipped}
 use Rattle.tree_crossings.proofs.flip_ends.Given as goal
 
 abbrev pub invariant-loop-r : goal.invariant-loop-r
-invariant-loop-r l =
-    (length l.layers ≡ layers_length) × (l.r ≤ l.count) × EndsFlipped l.firsts l.seconds l.members l.r l.place l.layers
-
-abbrev pub decreases-loop-r : goal.decreases-loop-r
-decreases-loop-r l = l.count - l.r
+invariant-loop-r l = record {
+  all : length l.layers ≡ layers_length;
+  flipped : EndsFlipped l.firsts l.seconds l.members l.r l.place l.layers;
+}
