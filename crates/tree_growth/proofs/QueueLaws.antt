@@ -2,15 +2,18 @@
 -- no member leads to a node that is not reached. When all are taken, the nodes reached are those that the members join to the root.
 -- Assumes nothing.
 use Prim.Native.Nat.{ℕ, suc, ◌+◌, ◌≤◌, ◌<◌}
-use mathlib.Core.Path.{◌≡◌, refl, sym, ap, ◌∙◌}
+use mathlib.Core.Path.{◌≡◌, refl, sym, ap, ◌∙◌, subst}
 use mathlib.Core.Logic.{◌⊎◌, inl, inr}
-use mathlib.Core.Bool.{true, false}
-use mathlib.Core.List.{List}
+use mathlib.Core.Bool.{Bool, true, false, cond}
+use mathlib.Core.List.{List, map, Memᴰ}
 use native.Mathlib.Numerals.{add-one}
 use native.Mathlib.Omega.{arith}
-use lib.ListN.{length, set, length-set}
+use lib.ListN.{length, set, get_or, length-set, get_or-map}
 use lib.Seq.{get_or-set_same, get_or-set_other}
 use lib.Dec.{eqb}
+use Rattle.std.specs.List.{between}
+use Rattle.std.proofs.lemmas.List.{map-set}
+use Rattle.std.proofs.lemmas.Slice.{between_is}
 use borrow.Author.Count.{below_more}
 use borrow.Author.Tests.{eqb-true, eqb-false, eq-eqb}
 use Rattle.cuts.specs.Sums.{only, count_to}
@@ -20,18 +23,27 @@ use Rattle.cuts.specs.Candidate.{member_links}
 use Rattle.cuts.specs.Paths.{Meets, forth, back}
 use Rattle.cuts.proofs.FlagLaws.{clash, truth, either, agree, or_left, or_right}
 use Rattle.cuts.proofs.SumLaws.{sum_congr, sum_const, count_most, count-more, count-lacks}
+use Rattle.cuts.proofs.ListLaws.{at_mem, mem_at}
 use Rattle.cuts.proofs.Handles.{member_in, member_of}
 use Rattle.arrays.specs.Lists.{entry, marked}
-use Rattle.arrays.specs.Links.{Held}
+use Rattle.arrays.specs.Links.{Held, Ending}
 use Rattle.arrays.specs.Grown.{GrownTree}
 use Rattle.arrays.proofs.OrderLaws.{ordered_spans, lower_end}
 use Rattle.arrays.proofs.GrowthLaws.{Growing, Quiet, growing_step, growing_stuck, growing-done}
-use Rattle.arrays.specs.ByNode.{touches, far, ByNode}
-use Rattle.by_node.proofs.EndsLaws.{links_at-of, links_at_in, run_mem, run-place}
+use Rattle.arrays.specs.ByNode.{touches, far, links_at, ByNode}
+use Rattle.by_node.proofs.EndsLaws.{links_at-of, links_at_in}
 
--- the far ends of the links at x in the entries from `from` up to, not including, `to` are reached
-abbrev pub Spent : List ℕ → List ℕ → List ℕ → List ℕ → ℕ → ℕ → ℕ → Type 0
-Spent fs ss ends reached x from to = (j : ℕ) → j < to → from ≤ j → marked reached (far fs ss x (entry ends j)) ≡ true
+-- the links listed at x
+abbrev pub listed : List ℕ → List ℕ → ℕ → List ℕ
+listed head ends x = between (entry head x) (entry head (x + 1)) ends
+
+-- the far ends of the first k of the links ks at x are reached
+abbrev pub Spent : List ℕ → List ℕ → List ℕ → ℕ → List ℕ → ℕ → Type 0
+Spent fs ss reached x ks k = (j : ℕ) → j < k → marked reached (far fs ss x (entry ks j)) ≡ true
+
+-- those of all links at x
+abbrev pub Swept : List ℕ → List ℕ → List ℕ → List ℕ → List ℕ → ℕ → Type 0
+Swept fs ss head ends reached x = Spent fs ss reached x (listed head ends x) (length (listed head ends x))
 
 -- the queue: of the `found` nodes in the order the first i are taken
 pub record Queue (fs ss head ends reached order : List ℕ) (nodes i found : ℕ) : Type 0 where
@@ -40,9 +52,23 @@ pub record Queue (fs ss head ends reached order : List ℕ) (nodes i found : ℕ
   pub counted : count_to 256 (marked reached) ≡ found
   pub behind : i ≤ found
   pub within : (p : ℕ) → p < found → entry order p < nodes
-  pub swept : (p : ℕ) → p < i → Spent fs ss ends reached (entry order p) (entry head (entry order p)) (entry head (entry order p + 1))
+  pub swept : (p : ℕ) → p < i → Swept fs ss head ends reached (entry order p)
 
 -- ---- marks
+
+-- the nodes reached, as numbers
+abbrev pub marks : List Bool → List ℕ
+marks bs = map (λ b. cond b 1 0) bs
+
+pub marked-is : (bs : List Bool) (x : ℕ) → marked (marks bs) x ≡ get_or bs x false
+marked-is bs x = ap (λ (n : ℕ). eqb n 1) (get_or-map (λ b. cond b 1 0) bs x false) ∙ at (get_or bs x false)
+  where
+    at : (b : Bool) → eqb (cond b 1 0) 1 ≡ b
+    at true = refl
+    at false = refl
+
+pub marks-set : (bs : List Bool) (x : ℕ) → marks (set bs x true) ≡ set (marks bs) x 1
+marks-set bs x = map-set (λ b. cond b 1 0) bs x true
 
 mark_same : (reached : List ℕ) (y : ℕ) → y < length reached → marked (set reached y 1) y ≡ true
 mark_same reached y b = ap (λ (a : ℕ). eqb a 1) (get_or-set_same reached y 1 0 b)
@@ -101,20 +127,33 @@ module _ {fs ss head ends : List ℕ} {nodes : ℕ} where
             behind = omega arith;
             within = below_more (λ p. entry (set order found y) p < nodes) found (λ p c. rw (old p c) (q.within p c))
                 (rw (get_or-set_same order found y 0 (let m = q.order_room in omega arith)) b);
-            swept = λ p c. rw (old p (omega arith)) (λ j d l. mark_kept reached y (let m = q.reached_room in omega arith) _ (q.swept p c j d l));
+            swept = λ p c. rw (old p (omega arith)) (λ j d. mark_kept reached y (let m = q.reached_room in omega arith) _ (q.swept p c j d));
           }
 
     -- the next node is taken
-    pub queue_next : i < found → Spent fs ss ends reached (entry order i) (entry head (entry order i)) (entry head (entry order i + 1))
-        → Queue fs ss head ends reached order nodes (i + 1) found
+    pub queue_next : i < found → Swept fs ss head ends reached (entry order i) → Queue fs ss head ends reached order nodes (i + 1) found
     queue_next b s = record {
       reached_room = q.reached_room;
       order_room = q.order_room;
       counted = q.counted;
       behind = omega arith;
       within = q.within;
-      swept = below_more (λ p. Spent fs ss ends reached (entry order p) (entry head (entry order p)) (entry head (entry order p + 1))) i q.swept s;
+      swept = below_more (λ p. Swept fs ss head ends reached (entry order p)) i q.swept s;
     }
+
+-- ---- the links listed at a node
+
+module _ {fs ss ks head ends : List ℕ} {nodes : ℕ} (e : ByNode fs ss ks head ends nodes) {x : ℕ} (b : x < nodes) where
+  listed-are : listed head ends x ≡ links_at fs ss x ks
+  listed-are = between_is ends (entry head x) (entry head (x + 1)) ∙ e.at x b
+
+  listed_of : {j : ℕ} → j < length (listed head ends x)
+      → Memᴰ (entry (listed head ends x) j) ks × (touches fs ss x (entry (listed head ends x) j) ≡ true)
+  listed_of {j} c =
+      links_at-of fs ss x ks (subst (Memᴰ (entry (listed head ends x) j)) listed-are (at_mem 0 (listed head ends x) j c))
+
+  pub listed-known : {j : ℕ} → j < length (listed head ends x) → Ending fs ss nodes (entry (listed head ends x) j)
+  listed-known c = e.known _ (listed_of c).0
 
 -- ---- the order
 
@@ -129,15 +168,16 @@ module _ {fs ss head ends : List ℕ} {nodes : ℕ} {net : Network} {t : Tree} (
       go (inr q) (inl r) = clash r q
       go (inr q) (inr r) = rw q (forth (h.firsts k b) (h.seconds k b ∙ eqb-true (entry ss k) x r))
 
-  pub grown-more : {p j : ℕ} → p < found → entry head (entry order p) ≤ j → j < entry head (entry order p + 1)
-      → marked reached (far fs ss (entry order p) (entry ends j)) ≡ false
-      → let y = far fs ss (entry order p) (entry ends j) in
-      Growing net t (set reached y 1) (set order found y) (set parents y (entry order p)) (set uplinks y (entry ends j)) (found + 1)
-  grown-more {p} {j} b l c f =
+  pub grown-more : {p j : ℕ} → p < found → j < length (listed head ends (entry order p))
+      → marked reached (far fs ss (entry order p) (entry (listed head ends (entry order p)) j)) ≡ false
+      → let k = entry (listed head ends (entry order p)) j in
+      let y = far fs ss (entry order p) k in
+      Growing net t (set reached y 1) (set order found y) (set parents y (entry order p)) (set uplinks y k) (found + 1)
+  grown-more {p} b c f =
       let a : entry order p < nodes = rw h.sized at (w.listed.within p b) in
-      let m = links_at-of fs ss (entry order p) (member_links net t) (run_mem e a l c) in
+      let m = listed_of e a c in
       let k = member_of net t m.0 in
-      rw add-one (growing_step h.linked w (record { member = k; meets = meets-far k.is_link m.1 }) f (w.holds p b))
+      rw (add-one found) (growing_step h.linked w (record { member = k; meets = meets-far k.is_link m.1 }) f (w.holds p b))
 
   -- all nodes of the order are taken
   pub grown_stuck : {i : ℕ} → Queue fs ss head ends reached order nodes i found → i ≡ found → found < nodes → GrownTree net t order parents uplinks false
@@ -152,9 +192,11 @@ module _ {fs ss head ends : List ℕ} {nodes : ℕ} {net : Network} {t : Tree} (
       through {k} {x} m a c r =
           let o = w.found x (rw h.sized a) r in
           let z : entry order o.0 ≡ x = o.2 in
-          let p = run-place e a (links_at_in fs ss x (member_links net t) (member_in net t m) c) in
-          let s : Spent fs ss ends reached x (entry head x) (entry head (x + 1)) = rw z at (q.swept o.0 (omega (arith, o.1))) in
-          rw p.3 at (s p.0 p.2 p.1)
+          let ks = links_at fs ss x (member_links net t) in
+          let p = mem_at 0 (links_at_in fs ss x (member_links net t) (member_in net t m) c) in
+          let s : Spent fs ss reached x ks (length ks)
+          = subst (λ (l : List ℕ). Spent fs ss reached x l (length l)) (listed-are e a) (rw z at (q.swept o.0 (omega (arith, o.1)))) in
+          rw p.2 at (s p.0 p.1)
 
       quiet : Quiet net t reached
       quiet k m = rw (h.firsts k m.is_link, h.seconds k m.is_link) (agree _ _ first second)
@@ -197,60 +239,52 @@ pub record Run (fs ss head ends : List ℕ) (nodes : ℕ) (reached order parents
   pub growing : (net : Network) (t : Tree) → Held net fs ss nodes → ByNode fs ss (member_links net t) head ends nodes
       → Growing net t reached order parents uplinks found
 
--- with the entries of node x, which is taken next, passed up to j
-pub record Row (fs ss head ends : List ℕ) (nodes : ℕ) (reached order parents uplinks : List ℕ) (i found x j : ℕ) : Type 0 where
+-- with the first k of the links at node x, which is taken next, passed
+pub record Row (fs ss head ends : List ℕ) (nodes : ℕ) (reached order parents uplinks : List ℕ) (i found x k : ℕ) : Type 0 where
   pub run : Run fs ss head ends nodes reached order parents uplinks i found
   pub next : i < found
   pub here : x ≡ entry order i
-  pub begun : entry head x ≤ j
-  pub spent : Spent fs ss ends reached x (entry head x) j
+  pub spent : Spent fs ss reached x (listed head ends x) k
 
-module _ {fs ss head ends : List ℕ} {nodes : ℕ} {reached order parents uplinks : List ℕ} {i found : ℕ} where
-  pub run-start : Run fs ss head ends nodes reached order parents uplinks i found → i < found
-      → Row fs ss head ends nodes reached order parents uplinks i found (entry order i) (entry head (entry order i))
-  run-start r b = record { run = r; next = b; here = refl; begun = omega arith; spent = λ j c d. absurd (omega arith) }
+module _ {fs ss head ends : List ℕ} {nodes : ℕ} {reached order parents uplinks : List ℕ} {i found x k : ℕ}
+    (r : Row fs ss head ends nodes reached order parents uplinks i found x k) where
+  -- the far end is reached
+  pub run_pass : marked reached (far fs ss x (entry (listed head ends x) k)) ≡ true
+      → Row fs ss head ends nodes reached order parents uplinks i found x (k + 1)
+  run_pass m = record {
+    run = r.run;
+    next = r.next;
+    here = r.here;
+    spent = below_more (λ j. marked reached (far fs ss x (entry (listed head ends x) j)) ≡ true) k r.spent m;
+  }
 
-  module _ {x j : ℕ} (r : Row fs ss head ends nodes reached order parents uplinks i found x j) where
-    -- the far end is reached
-    pub run_pass : marked reached (far fs ss x (entry ends j)) ≡ true → Row fs ss head ends nodes reached order parents uplinks i found x (j + 1)
-    run_pass m =
-        let b : entry head x ≤ j = r.begun in
-        record {
-          run = r.run;
-          next = r.next;
-          here = r.here;
-          begun = omega arith;
-          spent = below_more (λ i. entry head x ≤ i → marked reached (far fs ss x (entry ends i)) ≡ true) j r.spent (λ _. m);
-        }
+  -- it is not
+  pub run_step : {y : ℕ} → y ≡ far fs ss x (entry (listed head ends x) k) → y < nodes → nodes ≤ 256 → k < length (listed head ends x)
+      → marked reached y ≡ false
+      → Row fs ss head ends nodes (set reached y 1) (set order found y) (set parents y x) (set uplinks y (entry (listed head ends x) k))
+      i (found + 1) x (k + 1)
+  run_step {y} e b n c f =
+      let q = r.run.queue in
+      let u : i < found = r.next in
+      let m : y < length reached = let z = q.reached_room in omega arith in
+      record {
+        run = record {
+          parents_room = length-set parents y x ∙ r.run.parents_room;
+          uplinks_room = length-set uplinks y _ ∙ r.run.uplinks_room;
+          queue = queue-step q b n f;
+          growing = λ net t h g. rw (e, r.here) (grown-more h g (r.run.growing net t h g) u (rw r.here at c) (rw (e, r.here) at f));
+        };
+        next = omega arith;
+        here = r.here ∙ sym (get_or-set_other order found i y 0 (λ z. omega arith));
+        spent = below_more (λ j. marked (set reached y 1) (far fs ss x (entry (listed head ends x) j)) ≡ true) k
+            (λ j d. mark_kept reached y m _ (r.spent j d)) (rw (← e) (mark_same reached y m));
+      }
 
-    -- it is not
-    pub run_step : {y : ℕ} → y ≡ far fs ss x (entry ends j) → y < nodes → nodes ≤ 256 → j < entry head (x + 1) → marked reached y ≡ false
-        → Row fs ss head ends nodes (set reached y 1) (set order found y) (set parents y x) (set uplinks y (entry ends j)) i (found + 1) x (j + 1)
-    run_step {y} e b n c f =
-        let q = r.run.queue in
-        let l : entry head x ≤ j = r.begun in
-        let u : i < found = r.next in
-        let m : y < length reached = let z = q.reached_room in omega arith in
-        record {
-          run = record {
-            parents_room = length-set parents y x ∙ r.run.parents_room;
-            uplinks_room = length-set uplinks y (entry ends j) ∙ r.run.uplinks_room;
-            queue = queue-step q b n f;
-            growing = λ net t h k. rw (e, r.here) (grown-more h k (r.run.growing net t h k) u (rw r.here at l) (rw r.here at c)
-                (rw (e, r.here) at f));
-          };
-          next = omega arith;
-          here = r.here ∙ sym (get_or-set_other order found i y 0 (λ z. omega arith));
-          begun = omega arith;
-          spent = below_more (λ i. entry head x ≤ i → marked (set reached y 1) (far fs ss x (entry ends i)) ≡ true) j
-              (λ i d g. mark_kept reached y m _ (r.spent i d g)) (λ _. rw (← e) (mark_same reached y m));
-        }
-
-    -- all entries are passed
-    pub run_end : entry head (x + 1) ≤ j → Run fs ss head ends nodes reached order parents uplinks (i + 1) found
-    run_end b = record {
-      parents_room = r.run.parents_room;
-      uplinks_room = r.run.uplinks_room;
-      queue = queue_next r.run.queue r.next (rw (← r.here) (λ i d g. r.spent i (omega arith) g));
-      growing = r.run.growing;
-    }
+  -- all links at the node are passed
+  pub run_end : length (listed head ends x) ≤ k → Run fs ss head ends nodes reached order parents uplinks (i + 1) found
+  run_end b = record {
+    parents_room = r.run.parents_room;
+    uplinks_room = r.run.uplinks_room;
+    queue = queue_next r.run.queue r.next (rw (← r.here) (λ j d. r.spent j (omega arith)));
+    growing = r.run.growing;
+  }

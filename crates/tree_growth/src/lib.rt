@@ -45,8 +45,8 @@ fn grow_queue(
 {
     let head = &lists[0..STARTS];
     let list = &lists[STARTS..];
-    let mut reached = [0u8; MOST_NODES];
-    reached[0] = 1;
+    let mut reached = [false; MOST_NODES];
+    reached[0] = true;
     order[0] = 0;
     let mut found = 1;
     let mut i = 0;
@@ -55,19 +55,17 @@ fn grow_queue(
             return false;
         }
         let x = order[i];
+        let start = head[x as usize] as usize;
         let stop = head[x as usize + 1] as usize;
-        let mut j = head[x as usize] as usize;
-        while j < stop {
-            let k = list[j];
+        for &k in &list[start..stop] {
             let y = far_end(firsts[k as usize], seconds[k as usize], x);
-            if reached[y as usize] != 1 {
-                reached[y as usize] = 1;
+            if !reached[y as usize] {
+                reached[y as usize] = true;
                 order[found] = y;
                 parents[y as usize] = x;
                 uplinks[y as usize] = k;
                 found += 1;
             }
-            j += 1;
         }
         i += 1;
     }
@@ -88,7 +86,7 @@ pub fn grow(
         → GrownTree net t result.order result.parents result.uplinks result.joined }
 {
     let mut lists = [0u16; MEMBER_LISTS];
-    list_by_node(&mut lists, nodes, firsts, seconds, members, count);
+    list_by_node(&mut lists, nodes, firsts, seconds, &members[..count]);
     let mut order = [0u8; MOST_NODES];
     let mut parents = [0u8; MOST_NODES];
     let mut uplinks = [0u16; MOST_NODES];
@@ -102,9 +100,9 @@ pub fn grow(
         &lists,
     );
     Grown {
-        joined: joined,
-        order: order,
-        parents: parents,
-        uplinks: uplinks,
+        joined,
+        order,
+        parents,
+        uplinks,
     }
 }

@@ -1,21 +1,18 @@
 -- `tree_growth::grow_queue` meets its contract. The outer loop's invariant: of every network and tree that the arrays hold, the first `found`
 -- positions of `order` are an order in the making, and at the first i of them no member leads to a node that is not reached. The inner
--- loop's: besides, the members of node x, at position i, do not up to entry j.
+-- loop's: besides, the members of node x, at position i, do not up to k.
 -- Assumes nothing.
 use Prim.Native.Nat.{◌-◌}
-use Rattle.tree_growth.proofs.QueueLaws.{Run, Row}
+use Rattle.tree_growth.proofs.QueueLaws.{Run, Row, marks}
 use Rattle.tree_growth.proofs.grow_queue.Given as goal
 
-abbrev pub invariant-loop-j : goal.invariant-loop-j
-invariant-loop-j l =
-    Row l.firsts l.seconds l.head l.list l.nodes l.reached l.order l.parents l.uplinks l.i l.found l.x l.j
-
-abbrev pub decreases-loop-j : goal.decreases-loop-j
-decreases-loop-j l = l.stop - l.j
+abbrev pub invariant-loop-k : goal.invariant-loop-k
+invariant-loop-k l =
+    Row l.firsts l.seconds l.head l.list l.nodes (marks l.reached) l.order l.parents l.uplinks l.i l.found l.x l.k-index
 
 abbrev pub invariant-loop-found : goal.invariant-loop-found
 invariant-loop-found l =
-    Run l.firsts l.seconds l.head l.list l.nodes l.reached l.order l.parents l.uplinks l.i l.found
+    Run l.firsts l.seconds l.head l.list l.nodes (marks l.reached) l.order l.parents l.uplinks l.i l.found
 
 abbrev pub decreases-loop-found : goal.decreases-loop-found
 decreases-loop-found l = 256 - l.i
