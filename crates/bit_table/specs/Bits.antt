@@ -6,7 +6,8 @@
 --   WordsClear words q e  all words from q on and in front of e are 0
 --   NextWord words q e r  r is the first word from q on that is not 0, and in front of e
 --   BitsAhead words q e   the words have a bit in front of e, and q is no later than e
---   NextBit words q e r   r is the first from q on whose bit is set, or e where there is none in front of e
+--   BitsClear words q e   no bit from q on and in front of e is set
+--   NextBit words q e r   r is the first from q on whose bit is set, and in front of e
 use Rattle.std.specs.Prelude.{ℕ, ◌*◌, ◌/◌, ◌%◌, ◌^◌, ◌≤◌, ◌<◌, ◌≡◌, Bool, true, false, List, length, eqb}
 use Rattle.arrays.specs.Lists.{entry}
 
@@ -36,8 +37,11 @@ pub record BitsAhead (words : List ℕ) (from end : ℕ) : Type 0 where
   pub up_to : from ≤ end
   pub inside : end ≤ word_bits * length words
 
+abbrev pub BitsClear : List ℕ → ℕ → ℕ → Type 0
+BitsClear words from end = (q : ℕ) → from ≤ q → q < end → bit_of words q ≡ false
+
 pub record NextBit (words : List ℕ) (from end r : ℕ) : Type 0 where
   pub behind : from ≤ r
-  pub up_to : r ≤ end
-  pub unset : (q : ℕ) → from ≤ q → q < r → bit_of words q ≡ false
-  pub is_set : r < end → bit_of words r ≡ true
+  pub inside : r < end
+  pub none : BitsClear words from r
+  pub is_set : bit_of words r ≡ true

@@ -3,7 +3,7 @@
 
 ghost use Rattle.std.specs.Prelude.{◌≡◌, ◌||◌, ℕ, ◌*◌, ◌<◌, length, eqb, MatchOption};
 ghost use Rattle.std.specs.Bool.{xor};
-ghost use Rattle.bit_table.specs.Bits.{word_bits, bit_of, WordsAhead, WordsClear, NextWord, BitsAhead, NextBit};
+ghost use Rattle.bit_table.specs.Bits.{word_bits, bit_of, WordsAhead, WordsClear, NextWord, BitsAhead, BitsClear, NextBit};
 
 // The bits of a word.
 const WORD_BITS: usize = 64;
@@ -37,23 +37,23 @@ fn next_word(words: &[u64], from: usize, end: usize) -> Option<usize>
     None
 }
 
-// The first bit from `from` on that is set, `end` where there is none in front of it.
-pub fn next_bit(words: &[u64], from: usize, end: usize) -> usize
+// The first bit from `from` on that is set, `None` where there is none in front of bit `end`.
+pub fn next_bit(words: &[u64], from: usize, end: usize) -> Option<usize>
     requires { BitsAhead words.now from end }
-    ensures { NextBit words.now from end result }
+    ensures { MatchOption result (BitsClear words.now from end) (NextBit words.now from end) }
 {
     let mut q = from;
     while q < end {
         let left = words[q / WORD_BITS] >> (q % WORD_BITS);
         if left != 0 {
             let found = q + left.trailing_zeros() as usize;
-            return found.min(end);
+            return if found < end { Some(found) } else { None };
         }
         let stop = (end - 1) / WORD_BITS + 1;
         match next_word(words, q / WORD_BITS + 1, stop) {
             Some(word) => q = WORD_BITS * word,
-            None => return end,
+            None => return None,
         }
     }
-    end
+    None
 }

@@ -1,15 +1,14 @@
 -- `bit_table::next_bit` meets its contract: none of the bits passed is set, be it that the rest of a word is 0, or that whole words are.
 -- Assumes nothing.
-use Rattle.std.proofs.Common.{◌≡◌, ℕ, ◌+◌, ◌*◌, ◌/◌, ◌%◌, ◌^◌, ◌≤◌, ◌<◌, true, false, List, subst, arith}
+use Rattle.std.proofs.Common.{◌≡◌, ℕ, ◌+◌, ◌*◌, ◌/◌, ◌%◌, ◌^◌, ◌<◌, false, List, arith}
 use native.Mathlib.Decide.{dec_lt}
 use Rattle.arrays.specs.Lists.{entry}
-use Rattle.bit_table.specs.Bits.{word_bits, bit_of, WordsClear}
-use Rattle.bit_table.proofs.BitLaws.{zeros, none_ahead, bit_of-none, first-inside, first-ahead, none-before_first}
+use Rattle.bit_table.specs.Bits.{word_bits, bit_of, WordsClear, BitsClear}
+use Rattle.bit_table.proofs.BitLaws.{none_ahead, bit_of-none, first-inside, first-ahead, none-before_first}
 use Rattle.bit_table.proofs.next_bit.Goals as goal
 
 -- none is set from a on and before c, where none is before b, and none from b on
-joined : (words : List ℕ) (a b c : ℕ) → ((k : ℕ) → a ≤ k → k < b → bit_of words k ≡ false) → ((k : ℕ) → b ≤ k → k < c → bit_of words k ≡ false)
-    → (k : ℕ) → a ≤ k → k < c → bit_of words k ≡ false
+joined : (words : List ℕ) (a b c : ℕ) → BitsClear words a b → BitsClear words b c → BitsClear words a c
 joined words a b c f g k l m = go (dec_lt k b)
   where
     go : Dec (k < b) → bit_of words k ≡ false
@@ -18,7 +17,7 @@ joined words a b c f g k l m = go (dec_lt k b)
 
 -- no bit is set from q on up to the word w, where the rest of q's word is 0, and the words behind it are
 none-up_to : (words : List ℕ) (q w : ℕ) → entry words (q / word_bits) / 2 ^ (q % word_bits) ≡ 0 → WordsClear words (q / word_bits + 1) w
-    → (k : ℕ) → q ≤ k → k < word_bits * w → bit_of words k ≡ false
+    → BitsClear words q (word_bits * w)
 none-up_to words q w e h k l b = go (dec_lt (k / word_bits) (q / word_bits + 1))
   where
     go : Dec (k / word_bits < q / word_bits + 1) → bit_of words k ≡ false
@@ -31,40 +30,38 @@ overflow_add-found c =
     let small : entry c.args.words.now (q / word_bits) < 2 ^ word_bits = omega (arith, c.type_inv.words (q / word_bits)) in
     omega (arith, first-inside c.args.words.now q small c.if-left-ne0.true)
 
-pub returns-then-left-ne0 : goal.returns-then-left-ne0
-returns-then-left-ne0 c =
-    let a = c.args in
-    let words = a.words.now in
+pub returns-then-found-end : goal.returns-then-found-end
+returns-then-found-end c =
+    let words = c.args.words.now in
     let q = c.loop-q.q in
     let small : entry words (q / word_bits) < 2 ^ word_bits = omega (arith, c.type_inv.words (q / word_bits)) in
-    let none = none-before_first words q small c.if-left-ne0.true in
     record {
       behind = omega arith;
-      up_to = omega arith;
-      unset = joined words a.from q _ c.loop-q.invariant.2 (λ k b d. none k b (omega arith));
-      is_set = λ b.
-          let found : q + zeros words q ≡ c.min.result = omega arith in
-          subst (λ (k : ℕ). bit_of words k ≡ true) found (first-ahead words q small c.if-left-ne0.true);
+      inside = omega arith;
+      none = joined words c.args.from q _ c.loop-q.invariant.2 (none-before_first words q small c.if-left-ne0.true);
+      is_set = first-ahead words q small c.if-left-ne0.true;
     }
+
+pub returns-else-found-end : goal.returns-else-found-end
+returns-else-found-end c =
+    let words = c.args.words.now in
+    let q = c.loop-q.q in
+    let small : entry words (q / word_bits) < 2 ^ word_bits = omega (arith, c.type_inv.words (q / word_bits)) in
+    joined words c.args.from q _ c.loop-q.invariant.2 (λ k b d. none-before_first words q small c.if-left-ne0.true k b (omega arith))
 
 pub loop-q-preserved : goal.loop-q-preserved
 loop-q-preserved c =
-    let a = c.args in
+    let words = c.args.words.now in
     let q = c.loop-q.q in
     let n = c.in-Some.ensures in (
       omega (arith, n.behind),
       omega (arith, n.inside),
-      joined a.words.now a.from q _ c.loop-q.invariant.2 (none-up_to a.words.now q _ c.if-left-ne0.false n.none),
+      joined words c.args.from q _ c.loop-q.invariant.2 (none-up_to words q _ c.if-left-ne0.false n.none),
     )
 
 pub returns-in-None : goal.returns-in-None
 returns-in-None c =
-    let a = c.args in
+    let words = c.args.words.now in
     let q = c.loop-q.q in
-    let none = none-up_to a.words.now q _ c.if-left-ne0.false c.in-None.ensures in
-    record {
-      behind = omega arith;
-      up_to = omega arith;
-      unset = joined a.words.now a.from q _ c.loop-q.invariant.2 (λ k b d. none k b (omega arith));
-      is_set = λ b. absurd (omega arith);
-    }
+    let none = none-up_to words q _ c.if-left-ne0.false c.in-None.ensures in
+    joined words c.args.from q _ c.loop-q.invariant.2 (λ k b d. none k b (omega arith))

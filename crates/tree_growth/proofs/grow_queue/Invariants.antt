@@ -8,11 +8,11 @@ use Rattle.tree_growth.proofs.grow_queue.Given as goal
 
 abbrev pub invariant-loop-k : goal.invariant-loop-k
 invariant-loop-k l =
-    Row l.firsts l.seconds l.head l.list l.nodes (marks l.reached) l.order l.parents l.uplinks l.i l.found l.x l.k-index
+    Row l.firsts l.seconds l.starts l.runs l.nodes (marks l.reached) l.tree.order l.tree.parents l.tree.uplinks l.i l.found l.x l.k-index
 
 abbrev pub invariant-loop-found : goal.invariant-loop-found
 invariant-loop-found l =
-    Run l.firsts l.seconds l.head l.list l.nodes (marks l.reached) l.order l.parents l.uplinks l.i l.found
+    Run l.firsts l.seconds l.starts l.runs l.nodes (marks l.reached) l.tree.order l.tree.parents l.tree.uplinks l.i l.found
 
 abbrev pub decreases-loop-found : goal.decreases-loop-found
 decreases-loop-found l = 256 - l.i
