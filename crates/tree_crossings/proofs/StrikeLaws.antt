@@ -1,6 +1,6 @@
 -- Striking out the cells that pass a test, from one set bit to the next.
 -- Assumes nothing.
-use Prim.Native.Nat.{ℕ, ◌+◌, ◌<◌}
+use Prim.Native.Nat.{ℕ, ◌+◌, ◌≤◌, ◌<◌}
 use mathlib.Core.Path.{◌≡◌, refl, sym, ap, ◌∙◌}
 use mathlib.Core.Bool.{Bool, true, false, ◌&&◌, not, xor, and-true, and-false}
 use mathlib.Core.List.{List}
@@ -9,7 +9,7 @@ use native.Mathlib.Omega.{arith}
 use lib.Dec.{eqb, ltb}
 use borrow.Author.Tests.{eq-eqb, ne_eqb, lt-ltb, le-ltb}
 use Rattle.cuts.proofs.FlagLaws.{xor-false, xor_self}
-use Rattle.bit_table.specs.Bits.{bit_of, NextBit}
+use Rattle.bit_table.specs.Bits.{bit_of, BitsClear}
 use Rattle.place_layers.proofs.LayerLaws.{below_next}
 
 module _ (light : ℕ → Bool) (before : List ℕ) where
@@ -17,18 +17,18 @@ module _ (light : ℕ → Bool) (before : List ℕ) where
   abbrev pub StruckTo : ℕ → List ℕ → Type 0
   StruckTo q now = (k : ℕ) → bit_of now k ≡ (bit_of before k && not (ltb k q && light k))
 
-  struck-none : StruckTo 0 before
+  pub struck-none : StruckTo 0 before
   struck-none k = rw (le-ltb k 0 (omega arith)) (sym (and-true (bit_of before k)))
 
   -- on to the next set bit
-  skipped : (from end q : ℕ) (now : List ℕ) → StruckTo from now → NextBit now from end q → StruckTo q now
-  skipped from end q now h n k = go (dec_lt k from) (dec_lt k q)
+  pub skipped : (from q : ℕ) (now : List ℕ) → StruckTo from now → from ≤ q → BitsClear now from q → StruckTo q now
+  skipped from q now h l n k = go (dec_lt k from) (dec_lt k q)
     where
       go : Dec (k < from) → Dec (k < q) → bit_of now k ≡ (bit_of before k && not (ltb k q && light k))
       go (yes b) (yes d) = h k ∙ ap (λ (x : Bool). bit_of before k && not (x && light k)) (lt-ltb k from b ∙ sym (lt-ltb k q d))
-      go (yes b) (no d) = let l = n.behind in absurd (omega arith)
+      go (yes b) (no d) = absurd (omega arith)
       go (no b) (yes d) =
-          let z = n.unset k (omega arith) d in
+          let z = n k (omega arith) d in
           let off : (bit_of before k && not (ltb k from && light k)) ≡ (bit_of before k && true)
           = ap (λ (x : Bool). bit_of before k && not (x && light k)) (le-ltb k from (omega arith)) in
           let u : bit_of before k ≡ false = sym (and-true (bit_of before k)) ∙ sym off ∙ sym (h k) ∙ z in
@@ -36,32 +36,22 @@ module _ (light : ℕ → Bool) (before : List ℕ) where
       go (no b) (no d) =
           h k ∙ ap (λ (x : Bool). bit_of before k && not (x && light k)) (le-ltb k from (omega arith) ∙ sym (le-ltb k q (omega arith)))
 
-  pub struck-start : (end q : ℕ) → NextBit before 0 end q → StruckTo q before
-  struck-start end q n = skipped 0 end q before struck-none n
-
   module _ (q : ℕ) (now : List ℕ) (h : StruckTo q now) where
     -- the bits other than q
     others : (k : ℕ) → (k ≡ q → ⊥) → (bit_of before k && not (ltb k q && light k)) ≡ (bit_of before k && not (ltb k (q + 1) && light k))
     others k d = ap (λ (x : Bool). bit_of before k && not (x && light k)) (below_next k q d)
 
-    kept-one : light q ≡ false → StruckTo (q + 1) now
+    pub kept-one : light q ≡ false → StruckTo (q + 1) now
     kept-one z k = h k ∙ go (ℕ_discrete k q)
       where
         go : Dec (k ≡ q) → (bit_of before k && not (ltb k q && light k)) ≡ (bit_of before k && not (ltb k (q + 1) && light k))
         go (yes e) = rw (e, z, le-ltb q q (omega arith), lt-ltb q (q + 1) (omega arith))
         go (no d) = others k d
 
-    struck-one : (next : List ℕ) → light q ≡ true → bit_of now q ≡ true → ((k : ℕ) → bit_of next k ≡ xor (bit_of now k) (eqb k q))
+    pub struck-one : (next : List ℕ) → light q ≡ true → bit_of now q ≡ true → ((k : ℕ) → bit_of next k ≡ xor (bit_of now k) (eqb k q))
         → StruckTo (q + 1) next
     struck-one next z s f k = f k ∙ go (ℕ_discrete k q)
       where
         go : Dec (k ≡ q) → xor (bit_of now k) (eqb k q) ≡ (bit_of before k && not (ltb k (q + 1) && light k))
         go (yes e) = rw (e, z, s, eq-eqb q q refl, lt-ltb q (q + 1) (omega arith)) (xor_self true ∙ sym (and-false (bit_of before q)))
         go (no d) = rw (ne_eqb k q d) (xor-false (bit_of now k) ∙ h k ∙ others k d)
-
-    pub kept_on : (end p : ℕ) → light q ≡ false → NextBit now (q + 1) end p → StruckTo p now
-    kept_on end p z n = skipped (q + 1) end p now (kept-one z) n
-
-    pub struck_on : (next : List ℕ) (end p : ℕ) → light q ≡ true → bit_of now q ≡ true → ((k : ℕ) → bit_of next k ≡ xor (bit_of now k) (eqb k q))
-        → NextBit next (q + 1) end p → StruckTo p next
-    struck_on next end p z s f n = skipped (q + 1) end p next (struck-one next z s f) n

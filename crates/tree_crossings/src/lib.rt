@@ -2,22 +2,22 @@
 #![tactic(auto)]
 
 ghost use Rattle.std.specs.Prelude.{◌≡◌, Bool, ◌&&◌, not, leb};
-ghost use Rattle.cuts.specs.Sums.{table as flagTable};
-ghost use Rattle.cuts.specs.Network.{Network, Tree, link_count};
+ghost use Rattle.cuts.specs.Network.{Tree, tree_at};
 ghost use Rattle.cuts.specs.Cut.{crossings};
 ghost use Rattle.cuts.specs.Candidate.{Handle, side_of};
-ghost use Rattle.arrays.specs.Links.{first_ends, second_ends, Held};
-ghost use Rattle.sheet.specs.Bytes.{map_bit};
+ghost use Rattle.arrays.specs.Sheets.{network_of};
 ghost use Rattle.tree_ranks.specs.Ranks.{RankedTree};
 ghost use Rattle.bit_table.specs.Cells.{Tabled};
 ghost use Rattle.place_layers.specs.Layers.{FourLayers};
 ghost use Rattle.tree_crossings.specs.Layers.{EndPlaced, PlaceOf, Placeable, EndsFlipped, EndsParted, odd_count};
 ghost use Rattle.tree_crossings.specs.Strikes.{CellThere, cell_crossings, CellsThere, Struck, Strikable};
 
+use arrays::sheets::Sheet;
 use bit_table::{flip_bit, next_bit};
-use format::limits::{MOST_LINKS, MOST_NODES};
+use format::limits::MOST_NODES;
 use format::maps::list_members;
 use place_layers::{LAYER, LAYERS, odd_word, sum_layers};
+use sheet_trees::map_of;
 use tree_ranks::{Ranked, TABLE};
 
 // The place of a link's end.
@@ -111,42 +111,36 @@ fn strike(table: &mut [u64], layers: &[u64; LAYERS], nodes: usize, stops: &[u16]
         table.old table.new }
 {
     let end = (nodes - 1) * MOST_NODES;
-    let mut q = next_bit(table, 0, end);
-    while q < end {
+    let mut from = 0;
+    while let Some(q) = next_bit(table, from, end) {
         if cell_struck(layers, stops, at, q) {
             flip_bit(table, q);
         }
-        q = next_bit(table, q + 1, end);
+        from = q + 1;
     }
 }
 
-// Strikes out of the table the sides that cross at most two members of the tree in a map.
-pub fn strike_tree(
-    table: &mut [u64; TABLE],
-    map: &[u8],
-    nodes: usize,
-    links: usize,
-    ends: &[[u8; MOST_LINKS]; 2],
-    r: Ranked,
-)
-    requires { Strikable map.now nodes links ends.now r }
-    ensures { (net : Network) (t t' : Tree) (p : Handle → Bool)
-        → Held net (first_ends ends.now) (second_ends ends.now) nodes → link_count net ≡ links
-        → t'.members ≡ flagTable links (map_bit map.now)
-        → RankedTree net t r → Tabled net t p table.old
-        → Tabled net t (λ h. p h && not (leb (crossings net t' (side_of net t h)) 2)) table.new }
+// Strikes out of the table of a ranked tree the sides that cross at most two members of tree `i` of the sheet.
+pub fn strike_tree(table: &mut [u64; TABLE], n: &Sheet, i: usize, r: &Ranked)
+    requires { Strikable n.now i r.now }
+    ensures { (t : Tree) (p : Handle → Bool) → RankedTree (network_of n.now) t r.now
+        → Tabled (network_of n.now) t p table.old
+        → Tabled (network_of n.now) t
+        (λ h. p h && not (leb (crossings (network_of n.now) (tree_at (network_of n.now) i) (side_of (network_of n.now) t h)) 2)) table.new }
 {
+    let nodes = n.layout.nodes;
+    let links = n.links;
     let mut members = [0u16; MOST_NODES];
-    let count = list_members(&mut members, map, links);
+    let count = list_members(&mut members, map_of(n, i), n.layout.links);
     let mut layers = [0u64; LAYERS];
     mark_layers(
         &mut layers,
         nodes,
-        &ends[0],
-        &ends[1],
+        &links.ends[0],
+        &links.ends[1],
         &members,
         count,
-        &r.place,
+        &r.places.place,
     );
-    strike(table, &layers, nodes, &r.stops, &r.at);
+    strike(table, &layers, nodes, &r.places.stops, &r.at);
 }

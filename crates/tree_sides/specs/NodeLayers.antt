@@ -1,6 +1,6 @@
 -- The nodes of a tree in layers of bits by its places, and a side as words of bits: bit x of each is for node x. The side of a link has the
 -- nodes from its place up to its stop, which are those set in exactly one of the layers of the two. Assumes nothing.
---   NodesPlaceable layers nodes place   there is room for all layers, and in each for so many nodes; every number of `place` is a place
+--   NodesPlaceable layers nodes         no bit of any layer is set, and each layer has room for so many nodes
 --   NodesBefore nodes place layers      up to the layer `nodes`, each of so many nodes has its bit set in the layers of the places behind its own,
 --                                       in `place`, and no other bit is set
 --   odd_words layers a b c d            the words of the bits that are set in an odd number of the four layers
@@ -13,7 +13,7 @@ use Rattle.cuts.specs.Network.{Network, Tree, flag}
 use Rattle.cuts.specs.Cut.{Side}
 use Rattle.cuts.specs.Candidate.{side_of}
 use Rattle.cuts.specs.Limits.{most_nodes}
-use Rattle.arrays.specs.Lists.{entry, Within}
+use Rattle.arrays.specs.Lists.{entry}
 use Rattle.arrays.specs.Kept.{Kept}
 use Rattle.tree_places.specs.Places.{StopsKnown}
 use Rattle.search_order.specs.Choice.{chosen}
@@ -21,10 +21,9 @@ use Rattle.bit_table.specs.Bits.{bit_of}
 use Rattle.place_layers.specs.Layers.{layer_words, layers_length, layer_bit, odd_word}
 use Rattle.tree_sides.specs.Sides.{InTree}
 
-pub record NodesPlaceable (layers : List ℕ) (nodes : ℕ) (place : List ℕ) : Type 0 where
+pub record NodesPlaceable (layers : List ℕ) (nodes : ℕ) : Type 0 where
   pub clear : layers ≡ replicate layers_length 0
   pub few_nodes : nodes ≤ most_nodes
-  pub places_known : Within place most_nodes most_nodes
 
 abbrev pub NodesBefore : ℕ → List ℕ → List ℕ → Type 0
 NodesBefore nodes place layers =

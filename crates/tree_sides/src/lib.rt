@@ -36,7 +36,7 @@ fn place_of(nodes: usize, links: &[u16; MOST_NODES], link: u16) -> Option<usize>
 
 // Sets the bit of each node in the layers of the places behind its own; no bit is set before.
 pub fn node_layers(layers: &mut [u64], nodes: usize, place: &[u8; MOST_NODES])
-    requires { NodesPlaceable layers.old nodes place.now }
+    requires { NodesPlaceable layers.old nodes }
     ensures { NodesBefore nodes place.now layers.new }
 {
     for x in 0..nodes {
@@ -72,9 +72,9 @@ pub fn side_at(
 }
 
 // The side of the member `first` alone where `second` is equal to it, else of both; without a node where no place has one of them.
-pub fn side_of(nodes: usize, p: Places, first: u16, second: u16) -> [u64; SIDE_WORDS]
-    requires { SideGiven nodes p.stops }
-    ensures { (net : Network) (t : Tree) → Kept net t p.place p.node p.stops p.links
+pub fn side_of(nodes: usize, p: &Places, first: u16, second: u16) -> [u64; SIDE_WORDS]
+    requires { SideGiven nodes p.now.stops }
+    ensures { (net : Network) (t : Tree) → Kept net t p.now.place p.now.node p.now.stops p.now.links
         → net.nodes ≡ nodes → Fits net t (chosen first second)
         → SideWords result (side_of net t (chosen first second)) }
 {

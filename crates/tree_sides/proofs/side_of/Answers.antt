@@ -29,6 +29,6 @@ returns c net t k n fits =
     let v = c.in-Some-Some.ensures' in
     let layers = c.node_layers in
     subst (λ (h : Handle). SideWords c.side_at.result (side_of net t h)) (ap₂ chosen u.is v.is)
-    (c.side_at.ensures net t a.p.place a.p.node a.p.links k
+    (c.side_at.ensures net t a.p.now.place a.p.now.node a.p.now.links k
     (record { behind = u.behind; within = omega (arith, u.within) }) (record { behind = v.behind; within = omega (arith, v.within) })
-    (subst (λ (x : ℕ). NodesBefore x a.p.place layers.new.layers) (sym n) layers.ensures))
+    (subst (λ (x : ℕ). NodesBefore x a.p.now.place layers.new.layers) (sym n) layers.ensures))
