@@ -67,7 +67,6 @@ pub record LinksRun (f : Format) (s : Bytes) (from nodes count : ℕ) (ends : Li
   pub run : Run (next_link f nodes) count k (links_of k (part ends 0) (part ends 1) ws) (drop at s) (drop from s)
   pub last : link_of l ≡ get_or (links_of k (part ends 0) (part ends 1) ws) (k - 1) no_link
   pub inside : at ≤ length s
-  pub within : k ≤ count
   pub few : nodes ≤ most_nodes
   pub arrays : LinkArrays ends ws
   pub room : count ≤ most_links
@@ -103,7 +102,6 @@ module _ {f : Format} {s : Bytes} {from nodes count : ℕ} {ends : List (List �
             run = rw same (run_more w.run more (next_is ∙ sym e));
             last = rw (same, place) (sym (get_or_at got (link_of next) [] no_link k (links_of-length k (part ends 0) (part ends 1) ws)));
             inside = i;
-            within = omega arith;
             few = w.few;
             arrays = record {
               ends_room = arrays-put ends k next.first next.second w.arrays.ends_room;

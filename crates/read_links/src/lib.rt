@@ -8,11 +8,12 @@ ghost use Rattle.std.specs.Prelude.{◌≡◌, cond, ◌+◌, ◌*◌, ◌≤◌
 ghost use Rattle.sheet.specs.Bytes.{number};
 ghost use Rattle.sheet.specs.Reading.{first_failing};
 ghost use Rattle.sheet.specs.Sheet.{current, record_length, link_in, value_checks};
+ghost use Rattle.format.specs.Refusals.{returned};
 ghost use Rattle.read_links.specs.LinksRead.{fields_say, fields_of, link_of, RecordEnds, LinkRead, LinksReadable, LinksRead};
 
 use format::limits::MOST_LINKS;
 use format::numbers::{four, two};
-use format::{Step, refusals};
+use format::refusals::Refusal;
 
 // The three lowest bits of link 0's map byte: both ends and the weight are there.
 const ENDS_AND_WEIGHT: u8 = 7;
@@ -24,56 +25,40 @@ pub struct Link {
     pub weight: u32,
 }
 
-// The bytes of the fields behind a map byte, or that the map byte is refused.
-#[derive(Drop)]
-pub enum Fields {
-    Length(usize),
-    Refused,
-}
-
-// A link and where its record ends, or the refusal number.
-#[derive(Drop)]
-pub enum Record {
-    Read(Link, usize),
-    Refused(u32),
-}
-
-// How many bytes the fields behind the map byte take.
-fn field_bytes(m: u8) -> Fields
+// How many bytes the fields behind the map byte take; none where the map byte is refused.
+fn field_bytes(m: u8) -> Option<usize>
     ensures { fields_say result ≡ fields_of current m }
 {
     match m {
-        0 => Fields::Length(0),
-        1 | 2 | 8 => Fields::Length(2),
-        3 | 4 | 9 | 10 => Fields::Length(4),
-        5 | 6 | 11 | 12 => Fields::Length(6),
-        7 | 13 | 14 => Fields::Length(8),
-        15 => Fields::Length(10),
-        16..=255 => Fields::Refused,
+        0 => Some(0),
+        1 | 2 | 8 => Some(2),
+        3 | 4 | 9 | 10 => Some(4),
+        5 | 6 | 11 | 12 => Some(6),
+        7 | 13 | 14 => Some(8),
+        15 => Some(10),
+        16..=255 => None,
     }
 }
 
 // Where the record ends. `start` says that it is link 0's.
-fn record_end(s: &[u8], at: usize, start: bool) -> Step
+fn record_end(s: &[u8], at: usize, start: bool) -> Result<usize, Refusal>
     requires { at ≤ length s.now }
     ensures { RecordEnds current start s.now at result }
 {
     if at == s.len() {
-        return Step::Refused(refusals::NO_MAP_BYTE);
+        return Err(Refusal::NoMapByte);
     }
     let m = s[at];
     if m % 8 != ENDS_AND_WEIGHT && start {
-        return Step::Refused(refusals::MAP_BYTE);
+        return Err(Refusal::MapByte);
     }
-    match field_bytes(m) {
-        Fields::Length(n) => {
-            if s.len() - at - 1 < n {
-                return Step::Refused(refusals::CUT_OFF_FIELD);
-            }
-            Step::End(at + 1 + n)
-        }
-        Fields::Refused => Step::Refused(refusals::MAP_BYTE),
+    let Some(n) = field_bytes(m) else {
+        return Err(Refusal::MapByte);
+    };
+    if s.len() - at - 1 < n {
+        return Err(Refusal::CutOffField);
     }
+    Ok(at + 1 + n)
 }
 
 // A field of two bytes, or the value before where its bit is 0.
@@ -97,7 +82,7 @@ fn link_fields(s: &[u8], at: usize, before: Link) -> Link
     requires { at + record_length current (drop at s.now) ≤ length s.now }
     ensures { link_of result ≡ link_in current (link_of before) (drop at s.now) }
 {
-    let m = s[at] as usize;
+    let m = usize::from(s[at]);
     let first_at = at + 1;
     let second_at = first_at + 2 * (m % 2);
     let weight_at = second_at + 2 * (m / 2 % 2);
@@ -108,36 +93,35 @@ fn link_fields(s: &[u8], at: usize, before: Link) -> Link
     }
 }
 
-// The refusal number of a link's ends, 0 where they are not refused. Every weight of four bytes is allowed.
-fn link_refusal(nodes: usize, l: Link) -> u32
-    ensures { result ≡ first_failing (value_checks current nodes (link_of l)) }
+// Whether a link can have its ends. Every weight of four bytes is allowed.
+fn check_ends(nodes: usize, l: Link) -> Result<(), Refusal>
+    ensures { returned result ≡ first_failing (value_checks current nodes (link_of l)) }
 {
     if nodes <= l.first || nodes <= l.second || l.first == l.second {
-        return refusals::LINK_ENDS;
+        return Err(Refusal::LinkEnds);
     }
-    0
+    Ok(())
 }
 
-// The link of the record at a position, where `before` is the link before it.
-fn read_link(s: &[u8], at: usize, nodes: usize, start: bool, before: Link) -> Record
+// The link of the record at a position, where `before` is the link before it, and where the record ends.
+fn read_link(
+    s: &[u8],
+    at: usize,
+    nodes: usize,
+    start: bool,
+    before: Link,
+) -> Result<(Link, usize), Refusal>
     requires { at ≤ length s.now }
     ensures { LinkRead current nodes start (link_of before) s.now at result }
 {
-    match record_end(s, at, start) {
-        Step::End(end) => {
-            let l = link_fields(s, at, before);
-            let n = link_refusal(nodes, l);
-            if n == 0 {
-                Record::Read(l, end)
-            } else {
-                Record::Refused(n)
-            }
-        }
-        Step::Refused(n) => Record::Refused(n),
-    }
+    let end = record_end(s, at, start)?;
+    let link = link_fields(s, at, before);
+    check_ends(nodes, link)?;
+    Ok((link, end))
 }
 
-// The links of `count` records from a position on, into the arrays: their first ends, their second ends and their weights.
+// The links of `count` records from a position on, into the arrays: their first ends, their second ends and their weights. Answers where the
+// records end.
 pub fn read_links(
     ends: &mut [[u8; MOST_LINKS]; 2],
     weights: &mut [u32; MOST_LINKS],
@@ -145,7 +129,7 @@ pub fn read_links(
     from: usize,
     nodes: usize,
     count: usize,
-) -> Step
+) -> Result<usize, Refusal>
     requires { LinksReadable s.now from nodes count ends.old weights.old }
     ensures { LinksRead current s.now from nodes count ends.new weights.new result }
 {
@@ -155,21 +139,11 @@ pub fn read_links(
         second: 0,
         weight: 0,
     };
-    let mut k = 0;
-    while k < count {
-        match read_link(s, at, nodes, k == 0, link) {
-            Record::Read(l, end) => {
-                ends[0][k] = l.first as u8;
-                ends[1][k] = l.second as u8;
-                weights[k] = l.weight;
-                link = l;
-                at = end;
-            }
-            Record::Refused(n) => {
-                return Step::Refused(n);
-            }
-        }
-        k += 1;
+    for k in 0..count {
+        (link, at) = read_link(s, at, nodes, k == 0, link)?;
+        ends[0][k] = link.first as u8;
+        ends[1][k] = link.second as u8;
+        weights[k] = link.weight;
     }
-    Step::End(at)
+    Ok(at)
 }

@@ -22,14 +22,12 @@ pub fn trunk_numbers(numbers: &mut [u16], s: &[u8], from: usize, count: usize)
 {
     let mut at = from;
     let mut trunk = 0;
-    let mut k = 0;
-    while k < count {
-        let m = s[at] as usize;
+    for k in 0..count {
+        let m = usize::from(s[at]);
         let bit = m / 8 % 2;
         let trunk_at = at + 1 + trunk_start(m);
         trunk = two_or(s, trunk_at, bit, trunk);
         numbers[k] = trunk as u16;
         at = trunk_at + 2 * bit;
-        k += 1;
     }
 }

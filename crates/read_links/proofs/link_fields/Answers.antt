@@ -1,6 +1,5 @@
 -- `read_links::link_fields` meets its contract: each field is read where the fields before it end, and lies in the record, which lies in
 -- the sheet. Assumes nothing.
-use mathlib.Core.Path.{refl}
 use native.Mathlib.Omega.{arith}
 use lib.ListN.{get_or}
 use Rattle.sheet.specs.Sheet.{current}
@@ -25,4 +24,4 @@ four_or-requires c =
 pub returns : goal.returns
 returns c =
     let a = c.args in
-    link_at a.at (get_or a.s.now a.at 0) a.s.now refl current-fields _ _ c.two_or.ensures c.two_or-2.ensures c.four_or.ensures
+    link_at a.at c.from-m.result a.s.now c.from-m.ensures current-fields _ _ c.two_or.ensures c.two_or-2.ensures c.four_or.ensures

@@ -1,34 +1,20 @@
 -- What is left to prove of `read_links`.
-use mathlib.Core.Path.{◌≡◌, refl, subst}
+use mathlib.Core.Path.{refl}
 use native.Mathlib.Omega.{arith}
-use lib.ListN.{drop}
-use lib.Dec.{eqb}
 use Rattle.cuts.specs.Sums.{table}
-use Rattle.sheet.specs.Sheet.{current, link_record}
-use Rattle.read_links.specs.LinksRead.{link_of, link_says, LinkInside}
+use Rattle.std.proofs.lemmas.Result.{err_from_is_err_and}
+use Rattle.sheet.specs.Sheet.{current}
 use Rattle.arrays.specs.Links.{links_of}
-use Rattle.read_links.specs.declared.Record.{Record}
 use Rattle.sheet.proofs.ReadingLaws.{run-start}
 use Rattle.sheet.proofs.Acceptance.{GoodLink}
+use Rattle.read_links.specs.LinksRead.{link_of}
 use Rattle.read_links.proofs.LinksLaws.{links-stop, links-more, links_done, next-good}
 use Rattle.read_links.proofs.read_links.Goals as goal
-use Rattle.read_links.proofs.read_links.Goals.{After-read_link, In-Read}
-
--- what `read_link` answered
-module _ (c : After-read_link) where
-  link-says : (r : Record) → c.read_link.result ≡ r → let a = c.args in let l = c.loop-k in
-      link_says a.s.now r ≡ link_record current a.nodes (eqb l.k 0) (link_of l.link) (drop l.at a.s.now)
-  link-says r e =
-      let a = c.args in
-      let l = c.loop-k in
-      subst (λ (r : Record). link_says a.s.now r ≡ link_record current a.nodes (eqb l.k 0) (link_of l.link) (drop l.at a.s.now)) e c.read_link.ensures.says
-
-  link-inside : (r : Record) → c.read_link.result ≡ r → LinkInside c.args.s.now r
-  link-inside r e = subst (λ (r : Record). LinkInside c.args.s.now r) e c.read_link.ensures.inside
+use Rattle.read_links.proofs.read_links.Goals.{In_ok-link}
 
 -- a link that was read has its ends at nodes
-good : (c : In-Read) → GoodLink current c.args.nodes (link_of c.in-Read.l)
-good c = next-good c.loop-k.invariant c.loop-k-test.true c.in-Read.l c.in-Read.end c.in-Read.ensures.says
+good : (c : In_ok-link) → GoodLink current c.args.nodes (link_of c.in_ok-link.field-0-0)
+good c = next-good c.loop-k.invariant c.loop-k-test.true _ _ c.in_ok-link.ensures.says
 
 pub loop-k-init : goal.loop-k-init
 unfolding links_of table
@@ -36,31 +22,27 @@ loop-k-init c = record {
   run = run-start _ _ _;
   last = refl;
   inside = omega arith;
-  within = omega arith;
   few = omega arith;
   arrays = c.requires.arrays;
   room = omega arith;
 }
 
 pub overflow_cast-ends : goal.overflow_cast-ends
-overflow_cast-ends c = let g = good (goal.at.overflow_cast-ends c).In-Read in omega (arith, g.first_in, g.second_in)
+overflow_cast-ends c = let g = good (goal.at.overflow_cast-ends c).In_ok-link in omega (arith, g.first_in)
 
-pub overflow_cast-ends-in-Read : goal.overflow_cast-ends-in-Read
-overflow_cast-ends-in-Read c = let g = good (goal.at.overflow_cast-ends-in-Read c).In-Read in omega (arith, g.first_in, g.second_in)
+pub overflow_cast-ends-in-loop-k : goal.overflow_cast-ends-in-loop-k
+overflow_cast-ends-in-loop-k c = let g = good (goal.at.overflow_cast-ends-in-loop-k c).In_ok-link in omega (arith, g.second_in)
 
-pub returns-in-Refused : goal.returns-in-Refused
-returns-in-Refused c =
-    let l = c.loop-k in
-    record {
-      says = links-stop l.invariant c.loop-k-test.true c.in-Refused.n (link-says (goal.at.returns-in-Refused c).After-read_link _ c.in-Refused.is);
-      inside = tt;
-      arrays = l.invariant.arrays;
-    }
+pub returns-in_err-link : goal.returns-in_err-link
+returns-in_err-link c =
+    let l = c.loop-k.invariant in
+    let p = err_from_is_err_and c.from_residual.result c.from_residual.ensures.1 in
+    rw (p.1, p.2) (record { says = links-stop l c.loop-k-test.true _ c.in_err-link.ensures.says; inside = tt; arrays = l.arrays })
 
 pub loop-k-preserved : goal.loop-k-preserved
 loop-k-preserved c =
-    let r = (goal.at.loop-k-preserved c).After-read_link in
-    links-more c.loop-k.invariant c.loop-k-test.true c.in-Read.l c.in-Read.end (link-says r _ c.in-Read.is) (link-inside r _ c.in-Read.is)
+    let read = c.in_ok-link.ensures in
+    links-more c.loop-k.invariant c.loop-k-test.true _ _ read.says read.inside
 
 pub returns : goal.returns
-returns c = let l = c.loop-k.invariant in record { says = links_done l (omega (arith, l.within)); inside = l.inside; arrays = l.arrays }
+returns c = let l = c.loop-k.invariant in record { says = links_done l (omega arith); inside = l.inside; arrays = l.arrays }

@@ -1,9 +1,8 @@
 -- What is left to prove of `trunks::trunk_numbers`.
 use Prim.Native.Nat.{ℕ, ◌+◌, ◌*◌, ◌/◌, ◌%◌, ◌≤◌}
-use mathlib.Core.Path.{◌≡◌, refl, ap, ◌∙◌}
+use mathlib.Core.Path.{◌≡◌, ap, ◌∙◌}
 use native.Mathlib.Omega.{arith}
-use lib.ListN.{length, get_or, drop}
-use Rattle.sheet.specs.Bytes.{ByteSized}
+use lib.ListN.{length, drop}
 use Rattle.sheet.specs.Sheet.{current, record_length, field}
 use Rattle.read_links.proofs.RecordLaws.{current-fields, field_start_trunk, field_start_end, record_length-at, trunk_at}
 use Rattle.read_links.proofs.TrunkLaws.{trunks-start, next-there, next_small, trunks-more, trunks-done}
@@ -11,22 +10,19 @@ use Rattle.read_links.proofs.trunks.trunk_numbers.Goals as goal
 use Rattle.read_links.proofs.trunks.trunk_numbers.Goals.{After-trunk_start, After-two_or-trunk, In-loop-k}
 
 -- the next record lies in the sheet
-module _ (c : In-loop-k) where
-  sheet-bytes : ByteSized c.args.s.now
-  sheet-bytes k _ = omega (arith, c.shared_slice_known-1.given k)
-
-  there : let a = c.args in let l = c.loop-k in l.at + record_length current (drop l.at a.s.now) ≤ length a.s.now
-  there = next-there c.loop-k.invariant c.loop-k-test.true
+there : (c : In-loop-k) → let a = c.args in let l = c.loop-k in l.at + record_length current (drop l.at a.s.now) ≤ length a.s.now
+there c = next-there c.loop-k.invariant c.loop-k-test.true
 
 -- where it ends
 module _ (c : After-trunk_start) where
   ends : let l = c.loop-k in let s = c.args.s.now in
-      l.at + 1 + c.trunk_start.result + 2 * (get_or s l.at 0 / 8 % 2) ≡ l.at + record_length current (drop l.at s)
+      l.at + 1 + c.trunk_start.result + 2 * (c.from-m.result / 8 % 2) ≡ l.at + record_length current (drop l.at s)
   ends =
       let l = c.loop-k in
       let s = c.args.s.now in
-      let m = get_or s l.at 0 in
-      omega (arith, record_length-at current l.at s, field_start_end current-fields m, field_start_trunk current-fields m, c.trunk_start.ensures)
+      let m = c.from-m.result in
+      let size = rw (← c.from-m.ensures) at (record_length-at current l.at s) in
+      omega (arith, size, field_start_end current-fields m, field_start_trunk current-fields m, c.trunk_start.ensures)
 
 -- what is read is the record's trunk number
 read : (c : After-two_or-trunk) → let l = c.loop-k in
@@ -35,7 +31,7 @@ read c =
     let l = c.loop-k in
     let s = c.args.s.now in
     let place = ap (λ (i : ℕ). l.at + 1 + i) c.trunk_start.ensures in
-    rw place at c.two_or-trunk.ensures ∙ trunk_at l.at (get_or s l.at 0) s refl current-fields l.trunk
+    rw place at c.two_or-trunk.ensures ∙ trunk_at l.at c.from-m.result s c.from-m.ensures current-fields l.trunk
 
 pub loop-k-init : goal.loop-k-init
 loop-k-init c = trunks-start current c.args.s.now c.args.from c.args.count c.args.numbers.now c.requires.there c.requires.room
@@ -53,14 +49,17 @@ pub two_or-trunk-requires : goal.two_or-trunk-requires
 two_or-trunk-requires c = omega (arith, there (goal.at.two_or-trunk-requires c).In-loop-k, ends c)
 
 pub overflow_cast-numbers : goal.overflow_cast-numbers
-overflow_cast-numbers c = omega (arith, next_small c.loop-k.invariant c.loop-k-test.true current-fields (sheet-bytes (goal.at.overflow_cast-numbers c).In-loop-k), read c)
+overflow_cast-numbers c =
+    let small = next_small c.loop-k.invariant c.loop-k-test.true current-fields (λ i _. omega (arith, c.type_inv.s i)) in
+    omega (arith, small, read c)
 
 pub overflow_add-at : goal.overflow_add-at
 overflow_add-at c = omega (arith, there (goal.at.overflow_add-at c).In-loop-k, ends (goal.at.overflow_add-at c).After-trunk_start)
 
 pub loop-k-preserved : goal.loop-k-preserved
 loop-k-preserved c =
-    trunks-more c.loop-k.invariant c.loop-k-test.true current-fields (sheet-bytes (goal.at.loop-k-preserved c).In-loop-k) c.two_or-trunk.result _ (read c) (ends (goal.at.loop-k-preserved c).After-trunk_start)
+    let end = ends (goal.at.loop-k-preserved c).After-trunk_start in
+    trunks-more c.loop-k.invariant c.loop-k-test.true current-fields (λ i _. omega (arith, c.type_inv.s i)) _ _ (read c) end
 
 pub returns : goal.returns
 returns c = trunks-done c.loop-k.invariant c.loop-k-test.false

@@ -1,4 +1,4 @@
--- `read_links::link_refusal` meets its contract: each answer is the first check that fails, by the tests that were passed before it.
+-- `read_links::check_ends` meets its contract: each answer is the first check that fails, by the tests that were passed before it.
 -- Assumes nothing.
 use mathlib.Core.Path.{sym}
 use mathlib.Core.Logic.{inl, inr}
@@ -6,8 +6,8 @@ use native.Mathlib.Omega.{arith}
 use borrow.Author.Rules.{rules}
 use borrow.Author.Tests.{eqb-false}
 use Rattle.read_links.proofs.RecordLaws.{ends-refused, link_pass}
-use Rattle.read_links.proofs.link_refusal.Goals as goal
-use Rattle.read_links.proofs.link_refusal.Goals.{then-nodes-l-via-then-nodes-l, then-nodes-l-via-else-nodes-l+then-nodes-l-2, then-nodes-l-via-else-nodes-l+else-nodes-l-2+then-l}
+use Rattle.read_links.proofs.check_ends.Goals as goal
+use Rattle.read_links.proofs.check_ends.Goals.{then-nodes-l-via-then-nodes-l, then-nodes-l-via-else-nodes-l+then-nodes-l-2, then-nodes-l-via-else-nodes-l+else-nodes-l-2+then-l}
 
 pub returns-then-nodes-l : goal.returns-then-nodes-l
 returns-then-nodes-l c =
