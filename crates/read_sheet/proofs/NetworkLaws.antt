@@ -22,8 +22,9 @@ use Rattle.sheet.specs.Sheet.{Format, current, tree_length, tree_in, network, Ac
 use Rattle.sheet.proofs.Acceptance.{members-counted, decode-accepted}
 use Rattle.read_sheet.specs.TreesRead.{LinksKnown}
 use Rattle.read_sheet.specs.SheetRead.{SheetRead}
-use Rattle.read_sheet.specs.declared.Outcome.{Outcome}
-use Rattle.read_sheet.specs.declared.Outcome.TheVariants.{Read, Refused}
+use Rattle.std.specs.Prelude.{Result, Ok, Err}
+use Rattle.format.specs.Refusals.{refusal_number}
+use Rattle.format.specs.declared.refusals.Refusal.{Refusal}
 
 -- ---- counts
 
@@ -44,14 +45,14 @@ module _ (s : Bytes) (ends : List (List ℕ)) (ws : List ℕ) (l : Layout) where
 
 -- ---- what the answer to reading says
 
-module _ {s : Bytes} {ends : List (List ℕ)} {ws : List ℕ} {r : Outcome} (h : SheetRead s ends ws (decode current s) r) where
-  pub was_read : {l : Layout} → r ≡ Read l → decode current s ≡ accepted (network_at s ends ws l) []
+module _ {s : Bytes} {ends : List (List ℕ)} {ws : List ℕ} {r : Result Layout Refusal} (h : SheetRead s ends ws (decode current s) r) where
+  pub was_read : {l : Layout} → r ≡ Ok l → decode current s ≡ accepted (network_at s ends ws l) []
   was_read {l} e = sym (subst (SheetRead s ends ws (decode current s)) e h).says
 
-  pub was_refused : {n : ℕ} → r ≡ Refused n → decode current s ≡ refused n
+  pub was_refused : {e : Refusal} → r ≡ Err e → decode current s ≡ refused (refusal_number e)
   was_refused e = sym (subst (SheetRead s ends ws (decode current s)) e h).says
 
-  pub sheet-held : {l : Layout} → r ≡ Read l → SheetHeld current s ends ws l
+  pub sheet-held : {l : Layout} → r ≡ Ok l → SheetHeld current s ends ws l
   sheet-held {l} e =
       let a : Accepted current (network_at s ends ws l) = decode-accepted current s (network_at s ends ws l) [] (was_read e) in
       let t = (subst (SheetRead s ends ws (decode current s)) e h).trees_last in

@@ -9,7 +9,7 @@
 --   TreesAhead s p n m es        p is a position of s, where tree records for known links may stand
 --   TreeRead s p n m es r        r says what the record at p is read as, for every network that es holds
 --   TreesRead s p n m k es r     r says the same of k records from p on
-use Rattle.std.specs.Prelude.{ℕ, ◌+◌, ◌-◌, ◌≤◌, ◌<◌, ◌≡◌, List, [], length, drop}
+use Rattle.std.specs.Prelude.{ℕ, ◌+◌, ◌-◌, ◌≤◌, ◌<◌, ◌≡◌, List, [], length, drop, Result}
 use Rattle.cuts.specs.Sums.{count_to}
 use Rattle.cuts.specs.Limits.{most_nodes, most_links}
 use Rattle.cuts.specs.Network.{Network, link_count}
@@ -20,7 +20,7 @@ use Rattle.sheet.specs.Reading.{records}
 use Rattle.sheet.specs.Sheet.{map_length, tree_length, tree_in, tree_record}
 use Rattle.format.specs.Numbers.{eight_bytes}
 use Rattle.format.specs.Steps.{step_says, EndsAt}
-use Rattle.format.specs.declared.Step.{Step}
+use Rattle.format.specs.declared.refusals.Refusal.{Refusal}
 
 pub record PositionFits (at links tree : ℕ) : Type 0 where
   pub few_links : links ≤ most_links
@@ -50,12 +50,12 @@ pub record TreesAhead (s : Bytes) (at nodes links : ℕ) (ends : List (List ℕ)
   pub inside : at ≤ length s
   pub links_known : LinksKnown nodes links ends
 
-pub record TreeRead (s : Bytes) (at nodes links : ℕ) (ends : List (List ℕ)) (r : Step) : Type 0 where
+pub record TreeRead (s : Bytes) (at nodes links : ℕ) (ends : List (List ℕ)) (r : Result ℕ Refusal) : Type 0 where
   pub says : (net : Network) → Held net (first_ends ends) (second_ends ends) nodes → link_count net ≡ links
       → step_says (tree_in net (drop at s)) s r ≡ tree_record net (drop at s)
   pub ends_at : EndsAt (at + tree_length links) s r
 
-pub record TreesRead (s : Bytes) (from nodes links trees : ℕ) (ends : List (List ℕ)) (r : Step) : Type 0 where
+pub record TreesRead (s : Bytes) (from nodes links trees : ℕ) (ends : List (List ℕ)) (r : Result ℕ Refusal) : Type 0 where
   pub says : (net : Network) → Held net (first_ends ends) (second_ends ends) nodes → link_count net ≡ links
       → step_says (trees_from net trees (drop from s)) s r ≡ records (λ _. tree_record net) trees [] (drop from s)
   pub ends_at : EndsAt (record_at links from trees) s r

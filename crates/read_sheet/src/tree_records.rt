@@ -9,11 +9,12 @@ ghost use Rattle.arrays.specs.Records.{record_at, map_at};
 ghost use Rattle.sheet.specs.Bytes.{map_bit};
 ghost use Rattle.sheet.specs.Reading.{first_failing};
 ghost use Rattle.sheet.specs.Sheet.{map_length, tree_length, map_checks};
+ghost use Rattle.format.specs.Refusals.{returned};
 ghost use Rattle.read_sheet.specs.TreesRead.{PositionFits, RecordWhole, MapSized, MapCounted, TreesAhead, TreeRead, TreesRead};
 
 use format::limits::{MOST_LINKS, MOST_NODES};
 use format::maps::{list_members, ones, stray_bit};
-use format::{Step, refusals};
+use format::refusals::Refusal;
 use tree_growth::{Grown, grow};
 
 // The bytes of a tree's share, in front of its map.
@@ -24,7 +25,7 @@ fn map_length(links: usize) -> usize
     requires { links ≤ most_links }
     ensures { result ≡ map_length links }
 {
-    (links + 7) / 8
+    links.div_ceil(8)
 }
 
 // The bytes of a tree record.
@@ -53,18 +54,18 @@ pub fn tree_map(s: &[u8], at: usize, links: usize) -> &[u8]
     &s[map_at..end]
 }
 
-// The refusal number of a map's bits, 0 where they are not refused.
-fn map_refusal(map: &[u8], nodes: usize, links: usize) -> u32
+// Whether a tree can have the map's bits, or the first refusal.
+fn check_map(map: &[u8], nodes: usize, links: usize) -> Result<(), Refusal>
     requires { MapSized map.now nodes links }
-    ensures { result ≡ first_failing (map_checks nodes links map.now) }
+    ensures { returned result ≡ first_failing (map_checks nodes links map.now) }
 {
     if stray_bit(map, links) {
-        return refusals::STRAY_BIT;
+        return Err(Refusal::StrayBit);
     }
     if ones(map) != nodes - 1 {
-        return refusals::MEMBER_COUNT;
+        return Err(Refusal::MemberCount);
     }
-    0
+    Ok(())
 }
 
 // Grows the tree whose members are in a map, and says whether they join all nodes.
@@ -80,37 +81,31 @@ pub fn grow_tree(map: &[u8], nodes: usize, links: usize, ends: &[[u8; MOST_LINKS
     grow(nodes, &ends[0], &ends[1], &members, count)
 }
 
-// The tree record at a position.
+// The tree record at a position. Answers where it ends.
 pub fn read_tree(
     s: &[u8],
     at: usize,
     nodes: usize,
     links: usize,
     ends: &[[u8; MOST_LINKS]; 2],
-) -> Step
+) -> Result<usize, Refusal>
     requires { TreesAhead s.now at nodes links ends.now }
     ensures { TreeRead s.now at nodes links ends.now result }
 {
     let size = tree_length(links);
     if s.len() - at < size {
-        return Step::Refused(refusals::CUT_OFF_TREE);
+        return Err(Refusal::CutOffTree);
     }
-    let end = at + size;
     let map = tree_map(s, at, links);
-    let n = map_refusal(map, nodes, links);
-    if n != 0 {
-        return Step::Refused(n);
-    }
+    check_map(map, nodes, links)?;
     let grown = grow_tree(map, nodes, links, ends);
-    let joined = grown.joined;
-    if joined {
-        Step::End(end)
-    } else {
-        Step::Refused(refusals::NOT_JOINED)
+    if !grown.joined {
+        return Err(Refusal::NotJoined);
     }
+    Ok(at + size)
 }
 
-// As many tree records as `trees` says, from a position on.
+// As many tree records as `trees` says, from a position on. Answers where they end.
 pub fn read_trees(
     s: &[u8],
     from: usize,
@@ -118,22 +113,13 @@ pub fn read_trees(
     links: usize,
     trees: usize,
     ends: &[[u8; MOST_LINKS]; 2],
-) -> Step
+) -> Result<usize, Refusal>
     requires { TreesAhead s.now from nodes links ends.now }
     ensures { TreesRead s.now from nodes links trees ends.now result }
 {
     let mut at = from;
-    let mut i = 0;
-    while i < trees {
-        match read_tree(s, at, nodes, links, ends) {
-            Step::End(end) => {
-                at = end;
-            }
-            Step::Refused(n) => {
-                return Step::Refused(n);
-            }
-        }
-        i += 1;
+    for _tree in 0..trees {
+        at = read_tree(s, at, nodes, links, ends)?;
     }
-    Step::End(at)
+    Ok(at)
 }

@@ -3,9 +3,12 @@
 use Prim.Native.Nat.{ℕ, ◌+◌, ◌≤◌}
 use mathlib.Core.Path.{◌≡◌, sym, ap, ◌∙◌}
 use native.Mathlib.Omega.{arith}
+use borrow.Author.Tests.{not-true, not-false}
 use lib.ListN.{length, drop}
 use Rattle.cuts.specs.Sums.{table}
 use Rattle.cuts.specs.Network.{Network, link_count}
+use Rattle.std.proofs.lemmas.Result.{err_from_is_err_and}
+use Rattle.format.proofs.RefusalLaws.{refusal_number-some}
 use Rattle.arrays.specs.Links.{first_ends, second_ends, Held}
 use Rattle.arrays.specs.Records.{map_at}
 use Rattle.sheet.specs.Bytes.{Bytes, map_bit}
@@ -43,50 +46,55 @@ same_checks map nodes links net p q k e = rw (p, q) e
 module _ (c : After-grow_tree-grown) (net : Network) (h : Held net (first_ends c.args.ends.now) (second_ends c.args.ends.now) c.args.nodes)
     (n : link_count net ≡ c.args.links) where
   passes : first_failing (map_checks net.nodes (link_count net) c.tree_map-map.result.now) ≡ 0
-  passes =
-      let a = c.args in
-      let none = sym c.map_refusal-n.ensures ∙ c.if-n-ne0.false in
-      sym (same_checks _ a.nodes a.links net h.sized n 0 (sym none))
+  passes = let a = c.args in sym (same_checks _ a.nodes a.links net h.sized n 0 c.in_ok-check_map.ensures)
 
 pub returns-then-s-at : goal.returns-then-s-at
 returns-then-s-at c =
     let a = c.args in
     record { says = λ net h n. cut_off-at net a.s.now a.at (omega (arith, c.tree_length-size.ensures)); ends_at = omega arith }
 
-pub returns-then-n-ne0 : goal.returns-then-n-ne0
-returns-then-n-ne0 c =
+pub returns-in_err-check_map : goal.returns-in_err-check_map
+returns-in_err-check_map c =
     let a = c.args in
-    record {
-      says = λ net h n. refused-at net a.s.now _ a.at (slice (goal.at.returns-then-n-ne0 c).After-tree_map-map net n) (whole-net (goal.at.returns-then-n-ne0 c).After-tree_map-map net n) c.map_refusal-n.result
-          (same_checks _ a.nodes a.links net h.sized n _ c.map_refusal-n.ensures) c.if-n-ne0.true;
-      ends_at = let z = c.if-n-ne0.true in omega arith;
-    }
+    let t = (goal.at.returns-in_err-check_map c).After-tree_map-map in
+    let p = err_from_is_err_and c.from_residual.result c.from_residual.ensures.1 in
+    let some = refusal_number-some c.in_err-check_map.field-0.0 in
+    rw (p.1, p.2) (record {
+      says = λ net h n. refused-at net a.s.now _ a.at (slice t net n) (whole-net t net n) _
+          (same_checks _ a.nodes a.links net h.sized n _ c.in_err-check_map.ensures) (λ e. omega arith);
+      ends_at = some;
+    })
 
 pub grow_tree-grown-requires : goal.grow_tree-grown-requires
 grow_tree-grown-requires c =
     let a = c.args in
-    let passes = sym c.map_refusal-n.ensures ∙ c.if-n-ne0.false in
+    let t = (goal.at.grow_tree-grown-requires c).After-tree_map-map in
     record {
-      sized = sized (goal.at.grow_tree-grown-requires c).After-tree_map-map ∙ map_at-length a.s.now a.at a.links (whole (goal.at.grow_tree-grown-requires c).After-tree_map-map);
-      counted = map-counted _ _ _ passes;
+      sized = sized t ∙ map_at-length a.s.now a.at a.links (whole t);
+      counted = map-counted _ _ _ (sym c.in_ok-check_map.ensures);
       links_known = c.requires.links_known;
     }
 
-pub returns-then-joined : goal.returns-then-joined
-returns-then-joined c =
+pub returns-then-not-grown : goal.returns-then-not-grown
+returns-then-not-grown c =
     let a = c.args in
-    let size = c.tree_length-size in
+    let t = (goal.at.returns-then-not-grown c).After-tree_map-map in
+    let g = (goal.at.returns-then-not-grown c).After-grow_tree-grown in
     record {
-      says = λ net h n.
-          read_at net a.s.now _ a.at (slice (goal.at.returns-then-joined c).After-tree_map-map net n) (whole-net (goal.at.returns-then-joined c).After-tree_map-map net n) (passes (goal.at.returns-then-joined c).After-grow_tree-grown net h n) (a.at + size.result) (omega (arith, size.ensures, n))
-          (sym c.if-joined.true ∙ (c.grow_tree-grown.ensures net (tree_in net (drop a.at a.s.now)) h n (members (goal.at.returns-then-joined c).After-tree_map-map net n)).joined);
-      ends_at = record { here = omega (arith, size.ensures); inside = omega (arith, size.ensures, whole (goal.at.returns-then-joined c).After-tree_map-map) };
+      says = λ net h n. apart-at net a.s.now _ a.at (slice t net n) (whole-net t net n) (passes g net h n)
+          (sym (not-true _ c.if-not-grown.true) ∙ (c.grow_tree-grown.ensures net (tree_in net (drop a.at a.s.now)) h n (members t net n)).joined);
+      ends_at = omega arith;
     }
 
-pub returns-else-joined : goal.returns-else-joined
-returns-else-joined c =
+pub returns : goal.returns
+returns c =
     let a = c.args in
+    let size = c.tree_length-size in
+    let t = (goal.at.returns c).After-tree_map-map in
+    let g = (goal.at.returns c).After-grow_tree-grown in
     record {
-      says = λ net h n. apart-at net a.s.now _ a.at (slice (goal.at.returns-else-joined c).After-tree_map-map net n) (whole-net (goal.at.returns-else-joined c).After-tree_map-map net n) (passes (goal.at.returns-else-joined c).After-grow_tree-grown net h n) (sym c.if-joined.false ∙ (c.grow_tree-grown.ensures net (tree_in net (drop a.at a.s.now)) h n (members (goal.at.returns-else-joined c).After-tree_map-map net n)).joined);
-      ends_at = omega arith;
+      says = λ net h n. read_at net a.s.now _ a.at (slice t net n) (whole-net t net n) (passes g net h n) (a.at + size.result)
+          (omega (arith, size.ensures, n))
+          (sym (not-false _ c.if-not-grown.false) ∙ (c.grow_tree-grown.ensures net (tree_in net (drop a.at a.s.now)) h n (members t net n)).joined);
+      ends_at = record { here = omega (arith, size.ensures); inside = omega (arith, size.ensures, whole t) };
     }

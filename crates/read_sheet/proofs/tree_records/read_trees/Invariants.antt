@@ -1,7 +1,6 @@
--- `tree_records::read_trees` meets its contract. The loop's invariant: reading goes on behind the first i trees as the definition does,
--- for every network that the arrays hold; a turn reads the record that the definition reads next.
--- Assumes nothing.
-use Prim.Native.Nat.{◌+◌, ◌-◌, ◌*◌, ◌≤◌}
+-- `tree_records::read_trees` meets its contract. The loop's invariant: reading goes on behind the trees so far as the definition does, for
+-- every network that the arrays hold; a turn reads the record that the definition reads next. Assumes nothing.
+use Prim.Native.Nat.{◌+◌, ◌*◌, ◌≤◌}
 use mathlib.Core.Path.{◌≡◌}
 use lib.ListN.{length}
 use Rattle.cuts.specs.Network.{Network, link_count}
@@ -10,10 +9,10 @@ use Rattle.sheet.specs.Sheet.{tree_length}
 use Rattle.read_sheet.proofs.TreeLaws.{TreesRun}
 use Rattle.read_sheet.proofs.tree_records.read_trees.Given as goal
 
-abbrev pub invariant-loop-i : goal.invariant-loop-i
-invariant-loop-i l =
-    (l.at ≤ length l.s) × (l.i ≤ l.trees) × (l.at ≡ l.from + l.i * tree_length l.links)
-    × ((net : Network) → Held net (first_ends l.ends) (second_ends l.ends) l.nodes → link_count net ≡ l.links → TreesRun net l.s l.from l.trees l.at l.i)
-
-abbrev pub decreases-loop-i : goal.decreases-loop-i
-decreases-loop-i l = l.trees - l.i
+abbrev pub invariant-loop-tree : goal.invariant-loop-tree
+invariant-loop-tree l = record {
+  inside : l.at ≤ length l.s;
+  here : l.at ≡ l.from + l._tree * tree_length l.links;
+  run : (net : Network) → Held net (first_ends l.ends) (second_ends l.ends) l.nodes → link_count net ≡ l.links
+      → TreesRun net l.s l.from l.trees l.at l._tree;
+}

@@ -1,8 +1,8 @@
--- `tree_records::map_refusal` meets its contract. Each refusal number is that of the first check that fails, as the callees' answers
+-- `tree_records::check_map` meets its contract. Each refusal number is that of the first check that fails, as the callees' answers
 -- decide the checks. Assumes nothing.
 use mathlib.Core.Path.{sym, ◌∙◌}
 use Rattle.read_sheet.proofs.TreeLaws.{map-stray, map_miscounted, map-passed}
-use Rattle.read_sheet.proofs.tree_records.map_refusal.Goals as goal
+use Rattle.read_sheet.proofs.tree_records.check_map.Goals as goal
 
 pub returns-then-stray_bit : goal.returns-then-stray_bit
 returns-then-stray_bit c =
