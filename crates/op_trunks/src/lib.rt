@@ -2,24 +2,22 @@
 #![tactic(auto)]
 
 ghost use Rattle.sheet.specs.Sheet.{current};
+ghost use Rattle.format.specs.Refusals.{returned};
 ghost use Rattle.op_trunks.specs.TrunksRead.{TrunksRead};
 
 use format::limits::{HEADER_LENGTH, MOST_LINKS};
+use format::refusals::Refusal;
 use read_links::trunks::trunk_numbers;
-use read_sheet::{Outcome, read_sheet};
+use read_sheet::read_sheet;
 
-// Reads a sheet, writes the trunk number of each link to the front of the area, and returns 0; or returns the number of the first
-// refusal, which is the panel reader's, and leaves the area as it was.
-pub fn read_trunks(numbers: &mut [u16; MOST_LINKS], sheet: &[u8]) -> u32
-    ensures { TrunksRead current sheet.now numbers.old numbers.new result }
+// Reads a sheet and writes the trunk number of each link to the front of the area; or answers the first refusal, which is the panel
+// reader's, and leaves the area as it was.
+pub fn read_trunks(numbers: &mut [u16; MOST_LINKS], sheet: &[u8]) -> Result<(), Refusal>
+    ensures { TrunksRead current sheet.now numbers.old numbers.new (returned result) }
 {
     let mut ends = [[0u8; MOST_LINKS]; 2];
     let mut weights = [0u32; MOST_LINKS];
-    match read_sheet(&mut ends, &mut weights, sheet) {
-        Outcome::Read(l) => {
-            trunk_numbers(numbers, sheet, HEADER_LENGTH, l.links);
-            0
-        }
-        Outcome::Refused(n) => n,
-    }
+    let l = read_sheet(&mut ends, &mut weights, sheet)?;
+    trunk_numbers(numbers, sheet, HEADER_LENGTH, l.links);
+    Ok(())
 }
