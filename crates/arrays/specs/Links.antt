@@ -2,6 +2,7 @@
 --   EndArrays es                    es has two arrays of as many numbers as there may be links, for their first and their second ends
 --   LinkArrays es ws                so it has, and ws has as many numbers for the weights
 --   first_ends es, second_ends es   the two arrays of ends
+--   ends_of ls                      those of the links ls
 --   Ending fs ss n k                link k has its ends in the arrays, and they are nodes, of which there are n
 --   EndsKnown es n m                so it is of the first m links
 --   links_of m fs ss ws             the m links whose first ends, second ends and weights stand in the arrays
@@ -10,11 +11,12 @@
 --   Weighed net ws m                the network has m links, and ws has their weights
 --   Laid net fs ss ws n m           the arrays hold the network with its weights
 --   Loopless net                    no link joins a node to itself
-use Rattle.std.specs.Prelude.{ℕ, ◌<◌, ◌≡◌, List, length, get_or}
+use Rattle.std.specs.Prelude.{ℕ, ◌<◌, ◌≡◌, List, [], ◌∷◌, length, get_or}
 use Rattle.cuts.specs.Sums.{table}
 use Rattle.cuts.specs.Network.{Link, Network, Linked, link_at, link_count}
 use Rattle.cuts.specs.Limits.{most_links}
 use Rattle.arrays.specs.Lists.{entry, part}
+use Rattle.arrays.specs.declared.Links.{Links}
 
 pub record EndArrays (ends : List (List ℕ)) : Type 0 where
   pub both : length ends ≡ 2
@@ -30,6 +32,9 @@ first_ends ends = part ends 0
 
 abbrev pub second_ends : List (List ℕ) → List ℕ
 second_ends ends = part ends 1
+
+abbrev pub ends_of : Links → List (List ℕ)
+ends_of links = links.firsts ∷ links.seconds ∷ []
 
 pub record Ending (fs ss : List ℕ) (nodes k : ℕ) : Type 0 where
   pub in_firsts : k < length fs

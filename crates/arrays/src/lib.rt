@@ -24,7 +24,8 @@ pub struct Layout {
 // The links of a network, by number: the first and the second end of each, and its weight.
 #[derive(Drop)]
 pub struct Links {
-    pub ends: [[u8; MOST_LINKS]; 2],
+    pub firsts: [u8; MOST_LINKS],
+    pub seconds: [u8; MOST_LINKS],
     pub weights: [u32; MOST_LINKS],
 }
 
@@ -32,7 +33,8 @@ impl Links {
     // Ones to be read.
     pub fn empty() -> Links {
         Links {
-            ends: [[0; MOST_LINKS]; 2],
+            firsts: [0; MOST_LINKS],
+            seconds: [0; MOST_LINKS],
             weights: [0; MOST_LINKS],
         }
     }

@@ -1,5 +1,6 @@
 // A sheet that was read.
 ghost use Rattle.sheet.specs.Sheet.{current};
+ghost use Rattle.arrays.specs.Links.{ends_of};
 ghost use Rattle.arrays.specs.Records.{SheetHeld};
 
 use crate::{Layout, Links};
@@ -10,5 +11,5 @@ pub struct Sheet<'a> {
     pub bytes: &'a [u8],
     pub layout: Layout,
     pub links: &'a Links,
-    pub ghost held: { SheetHeld current bytes.now links.now.ends links.now.weights layout },
+    pub ghost held: { SheetHeld current bytes.now (ends_of links.now) links.now.weights layout },
 }

@@ -1,7 +1,7 @@
 -- Links read one after another into arrays: what the arrays hold is what `records` has read so far.
 -- Assumes nothing.
 use Prim.Native.Nat.{ℕ, ◌+◌, ◌-◌, ◌≤◌, ◌<◌}
-use mathlib.Core.Path.{◌≡◌, sym, ap, ap₂, ◌∙◌}
+use mathlib.Core.Path.{◌≡◌, refl, sym, ◌∙◌}
 use mathlib.Core.List.{List, [], ◌∷◌, ◌++◌}
 use native.Mathlib.Omega.{arith}
 use native.Mathlib.Numerals.{add-one}
@@ -12,8 +12,7 @@ use Rattle.cuts.specs.Sums.{table}
 use Rattle.cuts.specs.Network.{Link, no_link}
 use Rattle.cuts.specs.Limits.{most_nodes, most_links}
 use Rattle.cuts.proofs.SumLaws.{table_congr}
-use Rattle.arrays.specs.Lists.{part}
-use Rattle.arrays.specs.Links.{EndArrays, links_of, LinkArrays}
+use Rattle.arrays.specs.Links.{links_of, LinkArrays}
 use Rattle.arrays.proofs.LinkLaws.{links_of-length}
 use Rattle.sheet.specs.Bytes.{Bytes}
 use Rattle.sheet.specs.Reading.{accepted, refused, records}
@@ -39,47 +38,26 @@ links_of-set k a b w fs ss ws p q r =
           (λ i c. rw (get_or-set_other fs k i a 0 (λ q. omega arith), get_or-set_other ss k i b 0 (λ q. omega arith), get_or-set_other ws k i w 0 (λ q. omega arith))),
     )
 
--- the ends a and b of link k, each in its array
-abbrev pub put_ends : List (List ℕ) → ℕ → ℕ → ℕ → List (List ℕ)
-put_ends ends k a b = set (set ends 0 (set (part ends 0) k a)) 1 (set (part (set ends 0 (set (part ends 0) k a)) 1) k b)
-
-module _ (ends : List (List ℕ)) (k a b : ℕ) (e : EndArrays ends) where
-  firsts-put : part (put_ends ends k a b) 0 ≡ set (part ends 0) k a
-  firsts-put =
-      let n = e.both in
-      get_or-set_other (set ends 0 (set (part ends 0) k a)) 1 0 _ [] (λ q. omega arith) ∙ get_or-set_same ends 0 (set (part ends 0) k a) [] (omega arith)
-
-  seconds-put : part (put_ends ends k a b) 1 ≡ set (part ends 1) k b
-  seconds-put =
-      let n = e.both in
-      get_or-set_same (set ends 0 (set (part ends 0) k a)) 1 _ [] (let l = length-set ends 0 (set (part ends 0) k a) in omega arith)
-      ∙ ap (λ (xs : List ℕ). set xs k b) (get_or-set_other ends 0 1 (set (part ends 0) k a) [] (λ q. omega arith))
-
-  arrays-put : EndArrays (put_ends ends k a b)
-  arrays-put = record {
-    both = length-set (set ends 0 (set (part ends 0) k a)) 1 _ ∙ length-set ends 0 (set (part ends 0) k a) ∙ e.both;
-    firsts = ap length firsts-put ∙ length-set (part ends 0) k a ∙ e.firsts;
-    seconds = ap length seconds-put ∙ length-set (part ends 1) k b ∙ e.seconds;
-  }
-
 -- after k links, of `count` from the position `from` on, in the format f: `at` is the position behind them, and l the last of them
-pub record LinksRun (f : Format) (s : Bytes) (from nodes count : ℕ) (ends : List (List ℕ)) (ws : List ℕ) (at : ℕ) (l : link.Link) (k : ℕ) : Type 0 where
-  pub run : Run (next_link f nodes) count k (links_of k (part ends 0) (part ends 1) ws) (drop at s) (drop from s)
-  pub last : link_of l ≡ get_or (links_of k (part ends 0) (part ends 1) ws) (k - 1) no_link
+pub record LinksRun (f : Format) (s : Bytes) (from nodes count : ℕ) (fs ss ws : List ℕ) (at : ℕ) (l : link.Link) (k : ℕ) : Type 0 where
+  pub run : Run (next_link f nodes) count k (links_of k fs ss ws) (drop at s) (drop from s)
+  pub last : link_of l ≡ get_or (links_of k fs ss ws) (k - 1) no_link
   pub inside : at ≤ length s
   pub few : nodes ≤ most_nodes
-  pub arrays : LinkArrays ends ws
+  pub firsts_room : length fs ≡ most_links
+  pub seconds_room : length ss ≡ most_links
+  pub weights_room : length ws ≡ most_links
   pub room : count ≤ most_links
 
-module _ {f : Format} {s : Bytes} {from nodes count : ℕ} {ends : List (List ℕ)} {ws : List ℕ} {at : ℕ} {l : link.Link} {k : ℕ}
-    (w : LinksRun f s from nodes count ends ws at l k) where
+module _ {f : Format} {s : Bytes} {from nodes count : ℕ} {fs ss ws : List ℕ} {at : ℕ} {l : link.Link} {k : ℕ}
+    (w : LinksRun f s from nodes count fs ss ws at l k) where
   -- the links read so far
   abbrev got : List Link
-  got = links_of k (part ends 0) (part ends 1) ws
+  got = links_of k fs ss ws
 
   -- what is read next is the next link
   next_is : next_link f nodes got (drop at s) ≡ link_record f nodes (eqb k 0) (link_of l) (drop at s)
-  next_is = rw (links_of-length k (part ends 0) (part ends 1) ws, ← w.last)
+  next_is = rw (links_of-length k fs ss ws, ← w.last)
 
   module _ (more : k < count) where
     pub links-stop : (n : ℕ) → refused n ≡ link_record f nodes (eqb k 0) (link_of l) (drop at s) → refused n ≡ records (next_link f nodes) count [] (drop from s)
@@ -89,26 +67,25 @@ module _ {f : Format} {s : Bytes} {from nodes count : ℕ} {ends : List (List �
       pub next-good : GoodLink f nodes (link_of next)
       next-good = good-link f nodes got (drop at s) (link_of next) (drop end s) (next_is ∙ sym e)
 
-      pub links-more : end ≤ length s → LinksRun f s from nodes count (put_ends ends k next.first next.second) (set ws k next.weight) end next (k + 1)
+      pub links-more : end ≤ length s → LinksRun f s from nodes count (set fs k next.first) (set ss k next.second) (set ws k next.weight) end next (k + 1)
       links-more i =
           let r = w.room in
           let held =
-          links_of-set k next.first next.second next.weight (part ends 0) (part ends 1) ws (omega (arith, w.arrays.ends_room.firsts)) (omega (arith, w.arrays.ends_room.seconds))
-          (omega (arith, w.arrays.weights_room)) in
-          let same = ap₂ (λ (fs : List ℕ) (ss : List ℕ). links_of (k + 1) fs ss (set ws k next.weight))
-          (firsts-put ends k next.first next.second w.arrays.ends_room) (seconds-put ends k next.first next.second w.arrays.ends_room) ∙ held in
+          links_of-set k next.first next.second next.weight fs ss ws (omega (arith, w.firsts_room)) (omega (arith, w.seconds_room)) (omega (arith, w.weights_room)) in
           let place : k + 1 - 1 ≡ k = omega arith in
           record {
-            run = rw same (run_more w.run more (next_is ∙ sym e));
-            last = rw (same, place) (sym (get_or_at got (link_of next) [] no_link k (links_of-length k (part ends 0) (part ends 1) ws)));
+            run = rw held (run_more w.run more (next_is ∙ sym e));
+            last = rw (held, place) (sym (get_or_at got (link_of next) [] no_link k (links_of-length k fs ss ws)));
             inside = i;
             few = w.few;
-            arrays = record {
-              ends_room = arrays-put ends k next.first next.second w.arrays.ends_room;
-              weights_room = length-set ws k next.weight ∙ w.arrays.weights_room;
-            };
+            firsts_room = length-set fs k next.first ∙ w.firsts_room;
+            seconds_room = length-set ss k next.second ∙ w.seconds_room;
+            weights_room = length-set ws k next.weight ∙ w.weights_room;
             room = r;
           }
 
-  pub links_done : k ≡ count → accepted (links_of count (part ends 0) (part ends 1) ws) (drop at s) ≡ records (next_link f nodes) count [] (drop from s)
+  pub links_done : k ≡ count → accepted (links_of count fs ss ws) (drop at s) ≡ records (next_link f nodes) count [] (drop from s)
   links_done e = rw e at (run-done w.run e)
+
+  pub arrays-of : LinkArrays (fs ∷ ss ∷ []) ws
+  arrays-of = record { ends_room = record { both = refl; firsts = w.firsts_room; seconds = w.seconds_room }; weights_room = w.weights_room }

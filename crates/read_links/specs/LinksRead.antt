@@ -8,8 +8,7 @@
 --   RecordEnds f start s at r               r says where the link record at position `at` of s ends, or the number of the first check of its shape
 --                                           that fails; `start`: it is link 0's
 --   LinkRead f nodes start before s at r    r says what the link record at position `at` of s is read as, where `before` is the link before it
---   LinksReadable s from nodes count ends weights
---                                           `count` links of so many nodes, from position `from` of s on, can be read into these arrays
+--   LinksReadable s from nodes count        `count` links of so many nodes, from position `from` of s on, can be read
 --   LinksRead f s from nodes count ends weights r
 --                                           they are in the arrays, or r says the refusal
 --   LinksThere f s from count               `count` link records stand from position `from` of s on, and all are read in the format f
@@ -52,11 +51,10 @@ pub record LinkRead (f : Format) (nodes : ℕ) (start : Bool) (before : Link) (s
   pub says : link_says s r ≡ link_record f nodes start before (drop at s)
   pub inside : LinkInside s r
 
-pub record LinksReadable (s : Bytes) (from nodes count : ℕ) (ends : List (List ℕ)) (weights : List ℕ) : Type 0 where
+pub record LinksReadable (s : Bytes) (from nodes count : ℕ) : Type 0 where
   pub inside : from ≤ length s
   pub few_nodes : nodes ≤ most_nodes
   pub few_links : count ≤ most_links
-  pub arrays : LinkArrays ends weights
 
 pub record LinksRead (f : Format) (s : Bytes) (from nodes count : ℕ) (ends : List (List ℕ)) (weights : List ℕ) (r : Result ℕ Refusal) : Type 0 where
   pub says : step_says (links_of count (first_ends ends) (second_ends ends) weights) s r ≡ records (next_link f nodes) count [] (drop from s)

@@ -5,13 +5,14 @@
 pub mod trunks; // trunk numbers
 
 ghost use Rattle.std.specs.Prelude.{◌≡◌, cond, ◌+◌, ◌*◌, ◌≤◌, eqb, length, drop};
+ghost use Rattle.arrays.specs.Links.{ends_of};
 ghost use Rattle.sheet.specs.Bytes.{number};
 ghost use Rattle.sheet.specs.Reading.{first_failing};
 ghost use Rattle.sheet.specs.Sheet.{current, record_length, link_in, value_checks};
 ghost use Rattle.format.specs.Refusals.{returned};
 ghost use Rattle.read_links.specs.LinksRead.{fields_say, fields_of, link_of, RecordEnds, LinkRead, LinksReadable, LinksRead};
 
-use format::limits::MOST_LINKS;
+use arrays::Links;
 use format::numbers::{four, two};
 use format::refusals::Refusal;
 
@@ -120,18 +121,16 @@ fn read_link(
     Ok((link, end))
 }
 
-// The links of `count` records from a position on, into the arrays: their first ends, their second ends and their weights. Answers where the
-// records end.
+// Reads the links of `count` records from a position on. Answers where the records end.
 pub fn read_links(
-    ends: &mut [[u8; MOST_LINKS]; 2],
-    weights: &mut [u32; MOST_LINKS],
+    links: &mut Links,
     s: &[u8],
     from: usize,
     nodes: usize,
     count: usize,
 ) -> Result<usize, Refusal>
-    requires { LinksReadable s.now from nodes count ends.old weights.old }
-    ensures { LinksRead current s.now from nodes count ends.new weights.new result }
+    requires { LinksReadable s.now from nodes count }
+    ensures { LinksRead current s.now from nodes count (ends_of links.new) links.new.weights result }
 {
     let mut at = from;
     let mut link = Link {
@@ -141,9 +140,9 @@ pub fn read_links(
     };
     for k in 0..count {
         (link, at) = read_link(s, at, nodes, k == 0, link)?;
-        ends[0][k] = link.first as u8;
-        ends[1][k] = link.second as u8;
-        weights[k] = link.weight;
+        links.firsts[k] = link.first as u8;
+        links.seconds[k] = link.second as u8;
+        links.weights[k] = link.weight;
     }
     Ok(at)
 }

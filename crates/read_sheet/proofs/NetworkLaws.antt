@@ -61,7 +61,7 @@ module _ {s : Bytes} {ends : List (List ℕ)} {ws : List ℕ} {r : Result Layout
         few_links = omega (arith, links-counted s ends ws l, a.links_most);
         few_trees = omega (arith, trees-counted s ends ws l, a.trees_most);
         accepted = a;
-        arrays = h.arrays;
+        arrays = (subst (SheetRead s ends ws (decode current s)) e h).arrays;
       }
 
 -- ---- of a sheet that was read

@@ -2,9 +2,9 @@
 -- Assumes nothing.
 --   sheet_says s ends ws r           what r says where it answers to reading the sheet s into the arrays of ends and of weights
 --   TreesLast s r                    the tree records reach to the end of s
---   BodyReadable s c ends weights    links and trees of the counts c can be read behind the header of s into these arrays
+--   BodyReadable s c                 links and trees of the counts c can be read behind the header of s
 --   SheetRead s ends weights net r   r and the arrays say of s what its reading `net` says, and its tree records reach to its end
-use Rattle.std.specs.Prelude.{ℕ, ◌≤◌, ◌<◌, ◌≡◌, List, [], length, Result, Ok, Err}
+use Rattle.std.specs.Prelude.{ℕ, ◌≤◌, ◌<◌, ◌≡◌, List, [], length, Result, Ok, Err, OnOk}
 use Rattle.cuts.specs.Network.{Network}
 use Rattle.cuts.specs.Limits.{most_nodes, most_links}
 use Rattle.sheet.specs.Bytes.{Bytes}
@@ -24,14 +24,13 @@ abbrev pub TreesLast : Bytes → Result Layout Refusal → Type 0
 TreesLast s (Ok l) = record_of l l.trees ≡ length s
 TreesLast s (Err refusal) = Unit {0}
 
-pub record BodyReadable (s : Bytes) (c : Counts) (ends : List (List ℕ)) (weights : List ℕ) : Type 0 where
+pub record BodyReadable (s : Bytes) (c : Counts) : Type 0 where
   pub header : header_length ≤ length s
   pub some : 0 < c.nodes
   pub few_nodes : c.nodes ≤ most_nodes
   pub few_links : c.links ≤ most_links
-  pub arrays : LinkArrays ends weights
 
 pub record SheetRead (s : Bytes) (ends : List (List ℕ)) (weights : List ℕ) (net : Reading Network) (r : Result Layout Refusal) : Type 0 where
   pub says : sheet_says s ends weights r ≡ net
   pub trees_last : TreesLast s r
-  pub arrays : LinkArrays ends weights
+  pub arrays : OnOk r (LinkArrays ends weights)

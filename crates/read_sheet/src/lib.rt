@@ -6,29 +6,24 @@ pub mod tree_records; // tree records
 ghost use Rattle.std.specs.Prelude.{drop};
 ghost use Rattle.sheet.specs.Sheet.{current, header_length, decode_body, decode};
 ghost use Rattle.read_header.specs.HeaderRead.{counts_of};
-ghost use Rattle.arrays.specs.Links.{LinkArrays};
+ghost use Rattle.arrays.specs.Links.{ends_of};
 ghost use Rattle.read_sheet.specs.SheetRead.{BodyReadable, SheetRead};
 
 use crate::tree_records::read_trees;
-use arrays::Layout;
-use format::limits::{HEADER_LENGTH, MOST_LINKS};
+use arrays::{Layout, Links};
+use format::limits::HEADER_LENGTH;
 use format::refusals::Refusal;
 use read_header::{Counts, read_header};
 use read_links::read_links;
 
 // The links and trees behind the header.
-fn read_body(
-    ends: &mut [[u8; MOST_LINKS]; 2],
-    weights: &mut [u32; MOST_LINKS],
-    s: &[u8],
-    c: Counts,
-) -> Result<Layout, Refusal>
-    requires { BodyReadable s.now (counts_of c) ends.old weights.old }
-    ensures { SheetRead s.now ends.new weights.new
+fn read_body(links: &mut Links, s: &[u8], c: Counts) -> Result<Layout, Refusal>
+    requires { BodyReadable s.now (counts_of c) }
+    ensures { SheetRead s.now (ends_of links.new) links.new.weights
         (decode_body current (counts_of c) (drop header_length s.now)) result }
 {
-    let at = read_links(ends, weights, s, HEADER_LENGTH, c.nodes, c.links)?;
-    let end = read_trees(s, at, c.nodes, c.links, c.trees, ends)?;
+    let at = read_links(links, s, HEADER_LENGTH, c.nodes, c.links)?;
+    let end = read_trees(s, at, c.nodes, c.links, c.trees, links)?;
     if end < s.len() {
         return Err(Refusal::BytesLeft);
     }
@@ -40,17 +35,11 @@ fn read_body(
     })
 }
 
-// Reads a sheet: each link's first end, second end and weight into the arrays, and its layout as the answer; or answers the first refusal.
+// Reads a sheet: its links, and its layout as the answer; or answers the first refusal.
 // Cost: one pass over the bytes and one over the bits of each link map, and for each tree a few steps for each of its nodes.
-pub fn read_sheet(
-    ends: &mut [[u8; MOST_LINKS]; 2],
-    weights: &mut [u32; MOST_LINKS],
-    s: &[u8],
-) -> Result<Layout, Refusal>
-    requires { LinkArrays ends.old weights.old }
-    ensures { SheetRead s.now ends.new weights.new
-        (decode current s.now) result }
+pub fn read_sheet(links: &mut Links, s: &[u8]) -> Result<Layout, Refusal>
+    ensures { SheetRead s.now (ends_of links.new) links.new.weights (decode current s.now) result }
 {
     let c = read_header(s)?;
-    read_body(ends, weights, s, c)
+    read_body(links, s, c)
 }

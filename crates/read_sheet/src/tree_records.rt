@@ -1,10 +1,11 @@
 // Tree records: a share, then a map with one bit a link.
-ghost use Rattle.std.specs.Prelude.{◌≡◌, ◌+◌, ◌*◌, ◌≤◌};
+ghost use Rattle.std.specs.Prelude.{◌≡◌, ◌+◌, ◌*◌, ◌≤◌, false, MatchOption};
 ghost use Rattle.cuts.specs.Limits.{most_links};
 ghost use Rattle.cuts.specs.Sums.{table};
 ghost use Rattle.cuts.specs.Network.{Network, Tree, link_count};
-ghost use Rattle.arrays.specs.Links.{first_ends, second_ends, Held};
-ghost use Rattle.arrays.specs.Grown.{GrownTree};
+ghost use Rattle.cuts.specs.Tree.{spans};
+ghost use Rattle.arrays.specs.Links.{ends_of, Held};
+ghost use Rattle.arrays.specs.Grown.{TreeOrdered};
 ghost use Rattle.arrays.specs.Records.{record_at, map_at};
 ghost use Rattle.sheet.specs.Bytes.{map_bit};
 ghost use Rattle.sheet.specs.Reading.{first_failing};
@@ -12,7 +13,8 @@ ghost use Rattle.sheet.specs.Sheet.{map_length, tree_length, map_checks};
 ghost use Rattle.format.specs.Refusals.{returned};
 ghost use Rattle.read_sheet.specs.TreesRead.{PositionFits, RecordWhole, MapSized, MapCounted, TreesAhead, TreeRead, TreesRead};
 
-use format::limits::{MOST_LINKS, MOST_NODES};
+use arrays::Links;
+use format::limits::MOST_NODES;
 use format::maps::{list_members, ones, stray_bit};
 use format::refusals::Refusal;
 use tree_growth::{Grown, grow};
@@ -68,17 +70,16 @@ fn check_map(map: &[u8], nodes: usize, links: usize) -> Result<(), Refusal>
     Ok(())
 }
 
-// Grows the tree whose members are in a map, and says whether they join all nodes.
-pub fn grow_tree(map: &[u8], nodes: usize, links: usize, ends: &[[u8; MOST_LINKS]; 2]) -> Grown
-    requires { MapCounted map.now nodes links ends.now }
-    ensures { (net : Network) (t : Tree)
-        → Held net (first_ends ends.now) (second_ends ends.now) nodes
-        → link_count net ≡ links → t.members ≡ table links (map_bit map.now)
-        → GrownTree net t result.order result.parents result.uplinks result.joined }
+// Grows the tree whose members are in a map of so many links, `None` where they do not join all nodes.
+pub fn grow_tree(map: &[u8], nodes: usize, count: usize, links: &Links) -> Option<Grown>
+    requires { MapCounted map.now nodes count (ends_of links.now) }
+    ensures { (net : Network) (t : Tree) → Held net links.now.firsts links.now.seconds nodes
+        → link_count net ≡ count → t.members ≡ table count (map_bit map.now)
+        → MatchOption result (spans net t ≡ false) (λ g. TreeOrdered net t g.order g.parents g.uplinks) }
 {
     let mut members = [0u16; MOST_NODES];
-    let count = list_members(&mut members, map, links);
-    grow(nodes, &ends[0], &ends[1], &members, count)
+    let found = list_members(&mut members, map, count);
+    grow(nodes, &links.firsts, &links.seconds, &members[..found])
 }
 
 // The tree record at a position. Answers where it ends.
@@ -86,23 +87,22 @@ pub fn read_tree(
     s: &[u8],
     at: usize,
     nodes: usize,
-    links: usize,
-    ends: &[[u8; MOST_LINKS]; 2],
+    count: usize,
+    links: &Links,
 ) -> Result<usize, Refusal>
-    requires { TreesAhead s.now at nodes links ends.now }
-    ensures { TreeRead s.now at nodes links ends.now result }
+    requires { TreesAhead s.now at nodes count (ends_of links.now) }
+    ensures { TreeRead s.now at nodes count (ends_of links.now) result }
 {
-    let size = tree_length(links);
+    let size = tree_length(count);
     if s.len() - at < size {
         return Err(Refusal::CutOffTree);
     }
-    let map = tree_map(s, at, links);
-    check_map(map, nodes, links)?;
-    let grown = grow_tree(map, nodes, links, ends);
-    if !grown.joined {
-        return Err(Refusal::NotJoined);
+    let map = tree_map(s, at, count);
+    check_map(map, nodes, count)?;
+    match grow_tree(map, nodes, count, links) {
+        Some(_) => Ok(at + size),
+        None => Err(Refusal::NotJoined),
     }
-    Ok(at + size)
 }
 
 // As many tree records as `trees` says, from a position on. Answers where they end.
@@ -110,16 +110,16 @@ pub fn read_trees(
     s: &[u8],
     from: usize,
     nodes: usize,
-    links: usize,
+    count: usize,
     trees: usize,
-    ends: &[[u8; MOST_LINKS]; 2],
+    links: &Links,
 ) -> Result<usize, Refusal>
-    requires { TreesAhead s.now from nodes links ends.now }
-    ensures { TreesRead s.now from nodes links trees ends.now result }
+    requires { TreesAhead s.now from nodes count (ends_of links.now) }
+    ensures { TreesRead s.now from nodes count trees (ends_of links.now) result }
 {
     let mut at = from;
     for _tree in 0..trees {
-        at = read_tree(s, at, nodes, links, ends)?;
+        at = read_tree(s, at, nodes, count, links)?;
     }
     Ok(at)
 }

@@ -1,6 +1,7 @@
 -- What is left to prove of `read_links`.
 use mathlib.Core.Path.{refl}
 use native.Mathlib.Omega.{arith}
+use borrow.Author.Rules.{rules}
 use Rattle.cuts.specs.Sums.{table}
 use Rattle.std.proofs.lemmas.Result.{err_from_is_err_and}
 use Rattle.sheet.specs.Sheet.{current}
@@ -8,7 +9,7 @@ use Rattle.arrays.specs.Links.{links_of}
 use Rattle.sheet.proofs.ReadingLaws.{run-start}
 use Rattle.sheet.proofs.Acceptance.{GoodLink}
 use Rattle.read_links.specs.LinksRead.{link_of}
-use Rattle.read_links.proofs.LinksLaws.{links-stop, links-more, links_done, next-good}
+use Rattle.read_links.proofs.LinksLaws.{links-stop, links-more, links_done, next-good, arrays-of}
 use Rattle.read_links.proofs.read_links.Goals as goal
 use Rattle.read_links.proofs.read_links.Goals.{In_ok-link}
 
@@ -23,21 +24,23 @@ loop-k-init c = record {
   last = refl;
   inside = omega arith;
   few = omega arith;
-  arrays = c.requires.arrays;
+  firsts_room = search rules;
+  seconds_room = search rules;
+  weights_room = search rules;
   room = omega arith;
 }
 
-pub overflow_cast-ends : goal.overflow_cast-ends
-overflow_cast-ends c = let g = good (goal.at.overflow_cast-ends c).In_ok-link in omega (arith, g.first_in)
+pub overflow_cast-links : goal.overflow_cast-links
+overflow_cast-links c = let g = good (goal.at.overflow_cast-links c).In_ok-link in omega (arith, g.first_in)
 
-pub overflow_cast-ends-in-loop-k : goal.overflow_cast-ends-in-loop-k
-overflow_cast-ends-in-loop-k c = let g = good (goal.at.overflow_cast-ends-in-loop-k c).In_ok-link in omega (arith, g.second_in)
+pub overflow_cast-links-in-loop-k : goal.overflow_cast-links-in-loop-k
+overflow_cast-links-in-loop-k c = let g = good (goal.at.overflow_cast-links-in-loop-k c).In_ok-link in omega (arith, g.second_in)
 
 pub returns-in_err-link : goal.returns-in_err-link
 returns-in_err-link c =
     let l = c.loop-k.invariant in
     let p = err_from_is_err_and c.from_residual.result c.from_residual.ensures.1 in
-    rw (p.1, p.2) (record { says = links-stop l c.loop-k-test.true _ c.in_err-link.ensures.says; inside = tt; arrays = l.arrays })
+    rw (p.1, p.2) (record { says = links-stop l c.loop-k-test.true _ c.in_err-link.ensures.says; inside = tt; arrays = arrays-of l })
 
 pub loop-k-preserved : goal.loop-k-preserved
 loop-k-preserved c =
@@ -45,4 +48,4 @@ loop-k-preserved c =
     links-more c.loop-k.invariant c.loop-k-test.true _ _ read.says read.inside
 
 pub returns : goal.returns
-returns c = let l = c.loop-k.invariant in record { says = links_done l (omega arith); inside = l.inside; arrays = l.arrays }
+returns c = let l = c.loop-k.invariant in record { says = links_done l (omega arith); inside = l.inside; arrays = arrays-of l }

@@ -6,4 +6,4 @@ use Rattle.read_links.proofs.read_links.Given as goal
 
 abbrev pub invariant-loop-k : goal.invariant-loop-k
 invariant-loop-k l =
-    LinksRun current l.s l.from l.nodes l.count l.ends l.weights l.at l.link l.k
+    LinksRun current l.s l.from l.nodes l.count l.links.firsts l.links.seconds l.links.weights l.at l.link l.k

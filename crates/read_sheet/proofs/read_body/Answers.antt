@@ -8,7 +8,7 @@ use lib.ListN.{length, drop}
 use Rattle.std.proofs.Common.{Result}
 use Rattle.std.proofs.lemmas.Result.{err_from_is_err_and}
 use Rattle.cuts.specs.Network.{Link, Network}
-use Rattle.arrays.specs.Links.{first_ends, second_ends, EndsKnown, Held, links_of}
+use Rattle.arrays.specs.Links.{ends_of, first_ends, second_ends, EndsKnown, Held, links_of}
 use Rattle.arrays.specs.Records.{trees_from}
 use Rattle.arrays.proofs.LinkLaws.{links_of-length}
 use Rattle.by_node.proofs.RunLaws.{held-ending}
@@ -32,38 +32,38 @@ net-here nodes links ends weights = network nodes (links-here links ends weights
 -- the arrays hold it
 module _ (c : In_ok-at) where
   abbrev links-read : List Link
-  links-read = links-here c.args.c.links c.read_links.new.ends c.read_links.new.weights
+  links-read = links-here c.args.c.links (ends_of c.read_links.new.links) c.read_links.new.links.weights
 
   abbrev read : Network
-  read = net-here c.args.c.nodes c.args.c.links c.read_links.new.ends c.read_links.new.weights
+  read = net-here c.args.c.nodes c.args.c.links (ends_of c.read_links.new.links) c.read_links.new.links.weights
 
-  held-here : Held read (first_ends c.read_links.new.ends) (second_ends c.read_links.new.ends) c.args.c.nodes
+  held-here : Held read (first_ends (ends_of c.read_links.new.links)) (second_ends (ends_of c.read_links.new.links)) c.args.c.nodes
   unfolding links-here net-here
   held-here =
       let a = c.args in
-      let ends = c.read_links.new.ends in
-      held-links current a.c.nodes a.c.links (first_ends ends) (second_ends ends) c.read_links.new.weights (drop header_length a.s.now)
+      let ends = (ends_of c.read_links.new.links) in
+      held-links current a.c.nodes a.c.links (first_ends ends) (second_ends ends) c.read_links.new.links.weights (drop header_length a.s.now)
       (drop c.in_ok-at.at a.s.now) c.requires.some c.in_ok-at.ensures.says
 
-  ending_here : EndsKnown c.read_links.new.ends c.args.c.nodes c.args.c.links
+  ending_here : EndsKnown (ends_of c.read_links.new.links) c.args.c.nodes c.args.c.links
   unfolding links-here net-here
   ending_here k b =
       let a = c.args in
-      let ends = c.read_links.new.ends in
-      let n = links_of-length a.c.links (first_ends ends) (second_ends ends) c.read_links.new.weights in
+      let ends = (ends_of c.read_links.new.links) in
+      let n = links_of-length a.c.links (first_ends ends) (second_ends ends) c.read_links.new.links.weights in
       let e = c.in_ok-at.ensures.arrays.ends_room in
       let m = c.requires.few_links in
       held-ending held-here (omega (arith, n, e.firsts)) (omega (arith, n, e.seconds)) k (omega (arith, n))
 
 -- and what the trees' reading says of it, given what it says of each network that the arrays hold
-trees_say : (c : In_ok-at) (r : Result ℕ Refusal) → TreesRead c.args.s.now c.in_ok-at.at c.args.c.nodes c.args.c.links c.args.c.trees c.read_links.new.ends r
+trees_say : (c : In_ok-at) (r : Result ℕ Refusal) → TreesRead c.args.s.now c.in_ok-at.at c.args.c.nodes c.args.c.links c.args.c.trees (ends_of c.read_links.new.links) r
     → let a = c.args in let at = c.in_ok-at.at in
     step_says (trees_from (read c) a.c.trees (drop at a.s.now)) a.s.now r ≡ records (λ _. tree_record (read c)) a.c.trees [] (drop at a.s.now)
 unfolding links-here net-here
 trees_say c r e =
     let a = c.args in
-    let ends = c.read_links.new.ends in
-    e.says (read c) (held-here c) (links_of-length a.c.links (first_ends ends) (second_ends ends) c.read_links.new.weights)
+    let ends = (ends_of c.read_links.new.links) in
+    e.says (read c) (held-here c) (links_of-length a.c.links (first_ends ends) (second_ends ends) c.read_links.new.links.weights)
 
 pub returns-in_err-at : goal.returns-in_err-at
 returns-in_err-at c =
@@ -72,7 +72,7 @@ returns-in_err-at c =
     rw (p.1, p.2) (record {
       says = refused-by_links current c.args.s.now (counts_of c.args.c) _ links.says;
       trees_last = tt;
-      arrays = links.arrays;
+      arrays = tt;
     })
 
 pub read_trees-requires : goal.read_trees-requires
@@ -94,7 +94,7 @@ returns-in_err-end c =
     rw (p.1, p.2) (record {
       says = refused-by_trees current a.s.now (counts_of a.c) (links-read l) c.in_ok-at.at links.says _ (trees_say l _ c.in_err-end.ensures);
       trees_last = tt;
-      arrays = links.arrays;
+      arrays = tt;
     })
 
 pub returns-then-end-s : goal.returns-then-end-s
@@ -108,7 +108,7 @@ returns-then-end-s c =
       says = bytes_left current a.s.now (counts_of a.c) (links-read l) at links.says
           (trees_from (read l) a.c.trees (drop at a.s.now)) c.in_ok-end.end (trees_say l _ c.in_ok-end.ensures) c.if-end-s.true;
       trees_last = tt;
-      arrays = links.arrays;
+      arrays = tt;
     }
 
 pub returns : goal.returns

@@ -15,7 +15,7 @@ returns-in_err-c c =
     rw (p.1, p.2) (record {
       says = refused-by_header current c.args.s.now _ c.in_err-c.ensures;
       trees_last = tt;
-      arrays = c.requires;
+      arrays = tt;
     })
 
 pub read_body-requires : goal.read_body-requires
@@ -29,7 +29,6 @@ read_body-requires c =
       some = let b = g.nodes_least in omega arith;
       few_nodes = g.nodes_most;
       few_links = g.links_most;
-      arrays = c.requires;
     }
 
 pub returns : goal.returns

@@ -45,5 +45,5 @@ returns c =
     let done : l._tree ≡ a.trees = omega arith in
     record {
       says = λ net h n. trees_done net a.s.now a.from a.trees l.at l._tree (l.invariant.run net h n) done;
-      ends_at = record { here = l.invariant.here ∙ ap (λ (k : ℕ). a.from + k * tree_length a.links) done; inside = l.invariant.inside };
+      ends_at = record { here = l.invariant.here ∙ ap (λ (k : ℕ). a.from + k * tree_length a.count) done; inside = l.invariant.inside };
     }

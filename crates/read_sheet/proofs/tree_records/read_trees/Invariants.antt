@@ -4,7 +4,7 @@ use Prim.Native.Nat.{◌+◌, ◌*◌, ◌≤◌}
 use mathlib.Core.Path.{◌≡◌}
 use lib.ListN.{length}
 use Rattle.cuts.specs.Network.{Network, link_count}
-use Rattle.arrays.specs.Links.{first_ends, second_ends, Held}
+use Rattle.arrays.specs.Links.{Held}
 use Rattle.sheet.specs.Sheet.{tree_length}
 use Rattle.read_sheet.proofs.TreeLaws.{TreesRun}
 use Rattle.read_sheet.proofs.tree_records.read_trees.Given as goal
@@ -12,7 +12,7 @@ use Rattle.read_sheet.proofs.tree_records.read_trees.Given as goal
 abbrev pub invariant-loop-tree : goal.invariant-loop-tree
 invariant-loop-tree l = record {
   inside : l.at ≤ length l.s;
-  here : l.at ≡ l.from + l._tree * tree_length l.links;
-  run : (net : Network) → Held net (first_ends l.ends) (second_ends l.ends) l.nodes → link_count net ≡ l.links
+  here : l.at ≡ l.from + l._tree * tree_length l.count;
+  run : (net : Network) → Held net l.links.firsts l.links.seconds l.nodes → link_count net ≡ l.count
       → TreesRun net l.s l.from l.trees l.at l._tree;
 }
