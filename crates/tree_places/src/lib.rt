@@ -4,10 +4,9 @@
 // Cost: a few steps for each node.
 #![tactic(auto)]
 
-ghost use Rattle.std.specs.Prelude.{◌≡◌, List, ℕ, ◌+◌, ◌%◌, ◌≤◌, ◌<◌, length};
+ghost use Rattle.std.specs.Prelude.{◌≡◌, List, ℕ, ◌+◌, ◌%◌, ◌≤◌, ◌<◌};
 ghost use Rattle.cuts.specs.Network.{Network, Tree};
 ghost use Rattle.cuts.specs.Limits.{most_nodes};
-ghost use Rattle.arrays.specs.Lists.{entry};
 ghost use Rattle.tree_places.specs.Places.{stop_numbers, SomeNodes, Rooted, Sized, Heaviest};
 ghost use Rattle.tree_places.specs.Places.{PlacesOf, NodesOf, GatheredKnown, TreePlaced};
 ghost use Rattle.tree_places.specs.Passes.{heavier, size_in, Settled};
@@ -49,34 +48,16 @@ fn sum(a: u16, b: u16) -> u16
     (s % STOP_NUMBERS) as u16
 }
 
-// What each node adds of itself to the size of its subtree.
-fn own_sizes(sizes: &mut [u16])
-    ensures { (x : ℕ) → x < length sizes.old → entry sizes.new x ≡ 1 }
-{
-    let mut x = 0;
-    while x < sizes.len() {
-        sizes[x] = 1;
-        x += 1;
-    }
-}
-
-// The size of each node's subtree: each node adds its own to its parent's, the last in the order first.
-fn subtree_sizes(
-    nodes: usize,
-    order: [u8; MOST_NODES],
-    parents: [u8; MOST_NODES],
-) -> [u16; MOST_NODES]
+// The size of each node's subtree: each node adds its own, one at first, to its parent's, the last in the order first.
+fn subtree_sizes(nodes: usize, g: &Grown) -> [u16; MOST_NODES]
     requires { SomeNodes nodes }
-    ensures { (net : Network) (t : Tree) (uplinks : List ℕ) → Rooted net t order parents uplinks nodes
+    ensures { (net : Network) (t : Tree) (uplinks : List ℕ) → Rooted net t g.now.order g.now.parents uplinks nodes
         → Sized net t uplinks result }
 {
-    let mut sizes = [0u16; MOST_NODES];
-    own_sizes(&mut sizes[0..nodes]);
-    let mut i = nodes;
-    while i > 1 {
-        i -= 1;
-        let x = order[i] as usize;
-        let p = parents[x] as usize;
+    let mut sizes = [1u16; MOST_NODES];
+    for i in (1..nodes).rev() {
+        let x = g.order[i] as usize;
+        let p = g.parents[x] as usize;
         sizes[p] = sum(sizes[p], sizes[x]);
     }
     sizes
@@ -96,24 +77,16 @@ fn heavier_one(sizes: &[u16; MOST_NODES], h: u8, x: u8) -> u8
     }
 }
 
-// The child of each node with the largest size, 0 where there is none.
-fn heaviest_children(
-    nodes: usize,
-    order: [u8; MOST_NODES],
-    parents: [u8; MOST_NODES],
-    sizes: [u16; MOST_NODES],
-) -> [u8; MOST_NODES]
+// The child of each node with the largest size, 0 where there is none: the root is no child, so that a byte for each node is enough.
+fn heaviest_children(nodes: usize, g: &Grown, sizes: &[u16; MOST_NODES]) -> [u8; MOST_NODES]
     requires { SomeNodes nodes }
-    ensures { (net : Network) (t : Tree) (uplinks : List ℕ) → Rooted net t order parents uplinks nodes
-        → Heaviest net parents sizes result }
+    ensures { (net : Network) (t : Tree) (uplinks : List ℕ) → Rooted net t g.now.order g.now.parents uplinks nodes
+        → Heaviest net g.now.parents sizes.now result }
 {
     let mut heavy = [0u8; MOST_NODES];
-    let mut i = 1;
-    while i < nodes {
-        let x = order[i];
-        let p = parents[x as usize] as usize;
-        heavy[p] = heavier_one(&sizes, heavy[p], x);
-        i += 1;
+    for &x in &g.order[1..nodes] {
+        let p = g.parents[x as usize] as usize;
+        heavy[p] = heavier_one(sizes, heavy[p], x);
     }
     heavy
 }
@@ -150,13 +123,12 @@ fn settle(
 // its other children, as the order has them, behind that one's subtree and behind each other's.
 fn place_nodes(
     nodes: usize,
-    order: [u8; MOST_NODES],
-    parents: [u8; MOST_NODES],
-    sizes: [u16; MOST_NODES],
-    heavy: [u8; MOST_NODES],
+    g: &Grown,
+    sizes: &[u16; MOST_NODES],
+    heavy: &[u8; MOST_NODES],
 ) -> Intervals
     requires { SomeNodes nodes }
-    ensures { PlacesOf nodes order parents sizes heavy result.place result.stop }
+    ensures { PlacesOf nodes g.now.order g.now.parents sizes.now heavy.now result.place result.stop }
 {
     let mut place = [0u8; MOST_NODES];
     let mut stop = [0u16; MOST_NODES];
@@ -168,12 +140,11 @@ fn place_nodes(
         0,
         0,
         sizes[0],
-        size_in(&sizes, heavy[0]),
+        size_in(sizes, heavy[0]),
     );
-    let mut i = 1;
-    while i < nodes {
-        let x = order[i] as usize;
-        let p = parents[x] as usize;
+    for &x in &g.order[1..nodes] {
+        let x = x as usize;
+        let p = g.parents[x] as usize;
         let mut at = place[p] as u16 + 1;
         if heavy[p] as usize != x {
             at = free[p];
@@ -186,42 +157,32 @@ fn place_nodes(
             x,
             at,
             sizes[x],
-            size_in(&sizes, heavy[x]),
+            size_in(sizes, heavy[x]),
         );
-        i += 1;
     }
-    Intervals {
-        place: place,
-        stop: stop,
-    }
+    Intervals { place, stop }
 }
 
 // The node at each place.
-fn nodes_by_place(nodes: usize, place: [u8; MOST_NODES]) -> [u8; MOST_NODES]
+fn nodes_by_place(nodes: usize, place: &[u8; MOST_NODES]) -> [u8; MOST_NODES]
     requires { SomeNodes nodes }
-    ensures { NodesOf nodes place result }
+    ensures { NodesOf nodes place.now result }
 {
     let mut node = [0u8; MOST_NODES];
-    let mut x = 0;
-    while x < nodes {
-        let p = place[x] as usize;
-        node[p] = x as u8;
-        x += 1;
+    for x in 0..nodes {
+        node[place[x] as usize] = x as u8;
     }
     node
 }
 
 // What `from` has for the node at each place, 0 past the last.
-fn gather(nodes: usize, node: [u8; MOST_NODES], from: [u16; MOST_NODES]) -> [u16; MOST_NODES]
+fn gather(nodes: usize, node: &[u8; MOST_NODES], from: &[u16; MOST_NODES]) -> [u16; MOST_NODES]
     requires { nodes ≤ most_nodes }
-    ensures { GatheredKnown nodes node from result }
+    ensures { GatheredKnown nodes node.now from.now result }
 {
     let mut out = [0u16; MOST_NODES];
-    let mut p = 0;
-    while p < nodes {
-        let x = node[p] as usize;
-        out[p] = from[x];
-        p += 1;
+    for p in 0..nodes {
+        out[p] = from[node[p] as usize];
     }
     out
 }
@@ -231,21 +192,16 @@ pub fn place_tree(nodes: usize, g: Grown) -> Places
     requires { SomeNodes nodes }
     ensures { TreePlaced nodes g result }
 {
-    let order = g.order;
-    let parents = g.parents;
-    let uplinks = g.uplinks;
-    let sizes = subtree_sizes(nodes, order, parents);
-    let heavy = heaviest_children(nodes, order, parents, sizes);
-    let intervals = place_nodes(nodes, order, parents, sizes, heavy);
-    let place = intervals.place;
-    let stop = intervals.stop;
-    let node = nodes_by_place(nodes, place);
-    let stops = gather(nodes, node, stop);
-    let links = gather(nodes, node, uplinks);
+    let sizes = subtree_sizes(nodes, &g);
+    let heavy = heaviest_children(nodes, &g, &sizes);
+    let Intervals { place, stop } = place_nodes(nodes, &g, &sizes, &heavy);
+    let node = nodes_by_place(nodes, &place);
+    let stops = gather(nodes, &node, &stop);
+    let links = gather(nodes, &node, &g.uplinks);
     Places {
-        place: place,
-        node: node,
-        stops: stops,
-        links: links,
+        place,
+        node,
+        stops,
+        links,
     }
 }

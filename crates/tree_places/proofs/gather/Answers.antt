@@ -6,4 +6,4 @@ use Rattle.tree_places.proofs.SmallLaws.{zeros_within}
 use Rattle.tree_places.proofs.gather.Goals as goal
 
 pub loop-p-init : goal.loop-p-init
-loop-p-init c = (refl, omega arith, (λ q b. absurd (omega arith)), λ _. zeros_within stop_numbers (omega arith))
+loop-p-init c = (refl, (λ q b. absurd (omega arith)), λ _. zeros_within stop_numbers (omega arith))

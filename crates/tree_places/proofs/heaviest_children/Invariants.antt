@@ -1,7 +1,7 @@
 -- `tree_places::heaviest_children` meets its contract. The loop's invariant: of every tree that the order fits, each node has the heaviest of
--- its children before position i. A turn holds one node more against the heaviest of its parent's.
+-- its children before x. A turn holds one node more against the heaviest of its parent's.
 -- Assumes nothing.
-use Prim.Native.Nat.{ℕ, ◌-◌, ◌≤◌, ◌<◌}
+use Prim.Native.Nat.{ℕ, ◌+◌}
 use mathlib.Core.Path.{◌≡◌}
 use mathlib.Core.List.{List}
 use lib.ListN.{length}
@@ -11,10 +11,8 @@ use Rattle.tree_places.specs.Places.{Rooted}
 use Rattle.tree_places.specs.Passes.{Heavy}
 use Rattle.tree_places.proofs.heaviest_children.Given as goal
 
-abbrev pub invariant-loop-i : goal.invariant-loop-i
-invariant-loop-i l =
-    (length l.heavy ≡ most_nodes) × (0 < l.i) × (l.i ≤ l.nodes)
-    × ((net : Network) (t : Tree) (uplinks : List ℕ) → Rooted net t l.order l.parents uplinks l.nodes → Heavy l.order l.parents l.sizes l.heavy l.i)
-
-abbrev pub decreases-loop-i : goal.decreases-loop-i
-decreases-loop-i l = l.nodes - l.i
+abbrev pub invariant-loop-x : goal.invariant-loop-x
+invariant-loop-x l =
+    (length l.heavy ≡ most_nodes)
+    × ((net : Network) (t : Tree) (uplinks : List ℕ) → Rooted net t l.g.order l.g.parents uplinks l.nodes
+    → Heavy l.g.order l.g.parents l.sizes l.heavy (l.x-index + 1))

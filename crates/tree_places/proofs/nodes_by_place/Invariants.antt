@@ -1,7 +1,7 @@
 -- `tree_places::nodes_by_place` meets its contract. The loop's invariant: every number is a node, and of every preorder the nodes below x stand
 -- at their places. A turn puts one node more at its place, which is no other's.
 -- Assumes nothing.
-use Prim.Native.Nat.{ℕ, ◌-◌, ◌≤◌, ◌<◌}
+use Prim.Native.Nat.{ℕ, ◌<◌}
 use mathlib.Core.Path.{◌≡◌}
 use mathlib.Core.List.{List}
 use lib.ListN.{length}
@@ -13,9 +13,6 @@ use Rattle.tree_places.proofs.nodes_by_place.Given as goal
 
 abbrev pub invariant-loop-x : goal.invariant-loop-x
 invariant-loop-x l =
-    (length l.node ≡ most_nodes) × (l.x ≤ l.nodes) × Within l.node most_nodes l.nodes
+    (length l.node ≡ most_nodes) × Within l.node most_nodes l.nodes
     × ((net : Network) (t : Tree) (uplinks stop : List ℕ) → Preorder net t uplinks l.place stop → net.nodes ≡ l.nodes
     → (y : ℕ) → y < l.x → entry l.node (entry l.place y) ≡ y)
-
-abbrev pub decreases-loop-x : goal.decreases-loop-x
-decreases-loop-x l = l.nodes - l.x

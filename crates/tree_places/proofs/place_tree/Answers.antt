@@ -7,7 +7,7 @@ use Rattle.tree_places.proofs.place_tree.Goals as goal
 pub returns : goal.returns
 returns c =
     let n = c.nodes_by_place-node in
-    let s = c.place_nodes-intervals in
+    let s = c.place_nodes in
     let stops = c.gather-stops in
     let links = c.gather-links in
     record {
