@@ -17,6 +17,7 @@ use Rattle.pairs.specs.Slots.{row_start, pair_slot, row_starts}
 use Rattle.pairs.specs.Pairs.{pair_weights}
 use Rattle.arrays.specs.Lists.{entry}
 use Rattle.search_order.specs.Visits.{handle_at, passed}
+use Rattle.tree_rows.specs.declared.Figures.{Figures}
 use Rattle.tree_rows.specs.Making.{Searchable}
 use Rattle.tree_rows.specs.Reading.{RowHeld, RowAt}
 
@@ -48,7 +49,7 @@ pub record BehindPairs (nodes : ℕ) (before after : List ℕ) : Type 0 where
   pub same_length : length after ≡ length before
   pub same : (i : ℕ) → row_start (nodes - 1) ≤ i → entry after i ≡ entry before i
 
-pub record RowWritten (figures stops rank : List ℕ) (nodes u : ℕ) (before after : List ℕ) : Type 0 where
+pub record RowWritten (figures : Figures) (stops rank : List ℕ) (nodes u : ℕ) (before after : List ℕ) : Type 0 where
   pub behind : BehindPairs nodes before after
   pub more : (net : Network) (t : Tree) (place node links : List ℕ) → RowHeld net t place node stops links u figures → net.nodes ≡ nodes
       → PairsTo net t links rank nodes (u + 1) nodes before → PairsTo net t links rank nodes u nodes after

@@ -4,15 +4,14 @@
 ghost use Rattle.std.specs.Prelude.{◌≡◌, List, ℕ};
 ghost use Rattle.cuts.specs.Network.{Network, Tree};
 ghost use Rattle.arrays.specs.ByNode.{Degrees};
-ghost use Rattle.tree_rows.specs.Making.{places_in, nodes_in, RowsHeld};
-ghost use Rattle.tree_ranks.specs.Ranks.{RanksOf, RankedHeld};
+ghost use Rattle.tree_ranks.specs.Ranks.{RankedHeld};
 ghost use Rattle.pair_rows.specs.Writing.{slot_of_ranks, Slotted, RowWritable, RowWritten, PairsWritable, PairsLeft};
 
 use by_node::LISTS;
 use format::limits::{MOST_LINKS, MOST_NODES};
 use row_starts::{ROWS, row_starts};
 use tree_ranks::Ranked;
-use tree_rows::{FIGURES, make_row, pair_weight, weigh_places};
+use tree_rows::{Figures, NO_FIGURES};
 
 // The slot of the pair of the links of two different ranks, in either order; `starts` has the table of row starts.
 fn pair_slot(starts: &[u16; ROWS], a: u8, b: u8) -> usize
@@ -29,7 +28,7 @@ fn pair_slot(starts: &[u16; ROWS], a: u8, b: u8) -> usize
 // Writes the weights of the pairs of row `u`: the link at place `u` with each one behind it.
 fn write_row(
     area: &mut [u64],
-    figures: &[u64; FIGURES],
+    figures: &Figures,
     nodes: usize,
     stops: &[u16; MOST_NODES],
     rank: &[u8; MOST_NODES],
@@ -41,38 +40,8 @@ fn write_row(
         area.old area.new }
 {
     let own = rank[u];
-    let mut v = u + 1;
-    while v < nodes {
-        area[pair_slot(starts, own, rank[v])] = pair_weight(figures, stops, u, v);
-        v += 1;
-    }
-}
-
-// Writes the weights of all pairs of a tree, row by row; `figures` has the degrees by place.
-fn write_rows(
-    area: &mut [u64],
-    figures: &mut [u64; FIGURES],
-    nodes: usize,
-    ends: &[[u8; MOST_LINKS]; 2],
-    weights: &[u32; MOST_LINKS],
-    lists: &[u16; LISTS],
-    bytes: &[[u8; MOST_NODES]; 2],
-    stops: &[u16; MOST_NODES],
-    rank: &[u8; MOST_NODES],
-)
-    requires { PairsWritable area.old ends.now lists.now (nodes_in bytes.now) stops.now rank.now nodes }
-    ensures { (net : Network) (t : Tree) (links at : List ℕ)
-        → RowsHeld net t ends.now weights.now lists.now (places_in bytes.now)
-        (nodes_in bytes.now) stops.now links nodes nodes figures.old
-        → RanksOf net t links at rank.now
-        → PairsLeft net t area.old area.new }
-{
-    let starts = row_starts();
-    let mut u = nodes;
-    while u > 1 {
-        u -= 1;
-        make_row(figures, nodes, ends, weights, lists, bytes, stops, u);
-        write_row(area, figures, nodes, stops, rank, &starts, u);
+    for v in u + 1..nodes {
+        area[pair_slot(starts, own, rank[v])] = figures.pair_weight(stops, u, v);
     }
 }
 
@@ -93,22 +62,11 @@ pub fn write_pairs(
         → Degrees net degrees.now
         → PairsLeft net t area.old area.new }
 {
-    let place = r.place;
-    let node = r.node;
-    let stops = r.stops;
-    let rank = r.rank;
-    let bytes = [place, node];
-    let mut figures = [0u64; FIGURES];
-    weigh_places(&mut figures, nodes, &node, degrees);
-    write_rows(
-        area,
-        &mut figures,
-        nodes,
-        ends,
-        weights,
-        lists,
-        &bytes,
-        &stops,
-        &rank,
-    );
+    let starts = row_starts();
+    let mut figures = NO_FIGURES;
+    figures.weigh_places(nodes, &r.node, degrees);
+    for u in (1..nodes).rev() {
+        figures.make_row(nodes, ends, weights, lists, &r.place, &r.node, &r.stops, u);
+        write_row(area, &figures, nodes, &r.stops, &r.rank, &starts, u);
+    }
 }

@@ -5,9 +5,8 @@ ghost use Rattle.std.specs.Prelude.{◌≡◌, List, ℕ, ◌+◌, leb};
 ghost use Rattle.cuts.specs.Network.{Network, Tree};
 ghost use Rattle.cuts.specs.Candidate.{weight_of};
 ghost use Rattle.arrays.specs.ByNode.{Degrees};
-ghost use Rattle.tree_rows.specs.Making.{places_in, nodes_in, RowsHeld};
 ghost use Rattle.tree_rows.specs.Reading.{RowHeld, RowAt};
-ghost use Rattle.tree_ranks.specs.Ranks.{RanksOf, RankedHeld};
+ghost use Rattle.tree_ranks.specs.Ranks.{RankedHeld};
 ghost use Rattle.bit_table.specs.Cells.{Tabled};
 ghost use Rattle.search_ties.specs.Ties.{IsCellOf, InRows, LightMarked, Markable};
 
@@ -15,7 +14,7 @@ use bit_table::set_bit;
 use by_node::LISTS;
 use format::limits::{MOST_LINKS, MOST_NODES};
 use tree_ranks::{Ranked, TABLE};
-use tree_rows::{FIGURES, SINGLES, make_row, next_light, weigh_places};
+use tree_rows::{Figures, NO_FIGURES};
 
 // The cell of the links of two ranks, which is that of one link where they are equal.
 fn cell(a: u8, b: u8) -> usize
@@ -31,7 +30,7 @@ fn cell(a: u8, b: u8) -> usize
 // Marks the candidates of row `u` that weigh no more than the limit: the link at place `u` alone, and with each one behind it.
 fn mark_row(
     table: &mut [u64; TABLE],
-    figures: &[u64; FIGURES],
+    figures: &Figures,
     nodes: usize,
     stops: &[u16; MOST_NODES],
     rank: &[u8; MOST_NODES],
@@ -46,41 +45,13 @@ fn mark_row(
         → LightMarked net t links rank.now (InRows nodes u nodes) limit table.new }
 {
     let own = rank[u];
-    if figures[SINGLES + u] <= limit {
+    if figures.singles[u] <= limit {
         set_bit(table, cell(own, own));
     }
-    let mut v = next_light(figures, nodes, stops, u, u + 1, limit);
-    while v < nodes {
+    let mut from = u + 1;
+    while let Some(v) = figures.next_light(nodes, stops, u, from, limit) {
         set_bit(table, cell(own, rank[v]));
-        v = next_light(figures, nodes, stops, u, v + 1, limit);
-    }
-}
-
-// Marks the candidates of a tree that weigh no more than the limit, row by row; `figures` has the degrees by place.
-fn mark_rows(
-    table: &mut [u64; TABLE],
-    figures: &mut [u64; FIGURES],
-    nodes: usize,
-    ends: &[[u8; MOST_LINKS]; 2],
-    weights: &[u32; MOST_LINKS],
-    lists: &[u16; LISTS],
-    bytes: &[[u8; MOST_NODES]; 2],
-    stops: &[u16; MOST_NODES],
-    rank: &[u8; MOST_NODES],
-    limit: u64,
-)
-    requires { Markable table.old ends.now lists.now (nodes_in bytes.now) stops.now nodes }
-    ensures { (net : Network) (t : Tree) (links at : List ℕ)
-        → RowsHeld net t ends.now weights.now lists.now (places_in bytes.now)
-        (nodes_in bytes.now) stops.now links nodes nodes figures.old
-        → RanksOf net t links at rank.now
-        → Tabled net t (λ h. leb (weight_of net t h) limit) table.new }
-{
-    let mut u = nodes;
-    while u > 1 {
-        u -= 1;
-        make_row(figures, nodes, ends, weights, lists, bytes, stops, u);
-        mark_row(table, figures, nodes, stops, rank, u, limit);
+        from = v + 1;
     }
 }
 
@@ -103,23 +74,10 @@ pub fn mark_ties(
         → Degrees net degrees.now
         → Tabled net t (λ h. leb (weight_of net t h) limit) table.new }
 {
-    let place = r.place;
-    let node = r.node;
-    let stops = r.stops;
-    let rank = r.rank;
-    let bytes = [place, node];
-    let mut figures = [0u64; FIGURES];
-    weigh_places(&mut figures, nodes, &node, degrees);
-    mark_rows(
-        table,
-        &mut figures,
-        nodes,
-        ends,
-        weights,
-        lists,
-        &bytes,
-        &stops,
-        &rank,
-        limit,
-    );
+    let mut figures = NO_FIGURES;
+    figures.weigh_places(nodes, &r.node, degrees);
+    for u in (1..nodes).rev() {
+        figures.make_row(nodes, ends, weights, lists, &r.place, &r.node, &r.stops, u);
+        mark_row(table, &figures, nodes, &r.stops, &r.rank, u, limit);
+    }
 }

@@ -6,7 +6,7 @@ ghost use Rattle.cuts.specs.First.{first_from};
 ghost use Rattle.cuts.specs.Network.{Network, Tree};
 ghost use Rattle.cuts.specs.Candidate.{Candidate, candidate, fewer_nodes, ahead};
 ghost use Rattle.arrays.specs.ByNode.{Degrees};
-ghost use Rattle.tree_rows.specs.Making.{Searchable, TreeHeld, RowsHeld};
+ghost use Rattle.tree_rows.specs.Making.{Searchable, TreeHeld};
 ghost use Rattle.tree_rows.specs.Reading.{RowHeld, RowAt, ColumnAt};
 ghost use Rattle.search_order.specs.Choice.{Says, Prior, tree_candidates};
 ghost use Rattle.search_order.specs.Visits.{handle_at, Reached};
@@ -15,12 +15,12 @@ use by_node::LISTS;
 use format::limits::{MOST_LINKS, MOST_NODES};
 use search_order::{Found, comes_first, pair_of};
 use tree_places::Places;
-use tree_rows::{FIGURES, SINGLES, make_row, next_light, pair_weight, weigh_places};
+use tree_rows::{Figures, NO_FIGURES};
 use tree_sides::counts::{pair_count, single_count};
 
 // The candidate of the links at the places `u` and `v`, no earlier than it, from the row of u: of one link where they are equal.
 fn candidate_at(
-    figures: &[u64; FIGURES],
+    figures: &Figures,
     stops: &[u16; MOST_NODES],
     links: &[u16; MOST_NODES],
     tree: u8,
@@ -35,9 +35,9 @@ fn candidate_at(
     let link = links[u];
     if u == v {
         let below = single_count(stops, u);
-        return pair_of(tree, link, link, figures[SINGLES + u], below);
+        return pair_of(tree, link, link, figures.singles[u], below);
     }
-    let weight = pair_weight(figures, stops, u, v);
+    let weight = figures.pair_weight(stops, u, v);
     let count = pair_count(stops, u, v);
     pair_of(tree, link, links[v], weight, count)
 }
@@ -45,7 +45,7 @@ fn candidate_at(
 // The first of what was found before and the candidates of row `u`: the link at place `u` alone, then with each one behind it that weighs no
 // more than what was found.
 fn search_row(
-    figures: &[u64; FIGURES],
+    figures: &Figures,
     nodes: usize,
     stops: &[u16; MOST_NODES],
     links: &[u16; MOST_NODES],
@@ -61,46 +61,13 @@ fn search_row(
         → Reached (ahead fewer_nodes) c net tree t links.now u nodes result }
 {
     let mut best = before;
-    let mut v = u;
-    while v < nodes {
+    let mut next = Some(u);
+    while let Some(v) = next {
         let tried = candidate_at(figures, stops, links, tree, u, v);
         if comes_first(tried, best) {
             best = tried;
         }
-        v = next_light(figures, nodes, stops, u, v + 1, best.weight);
-    }
-    best
-}
-
-// The first of what was found before and all candidates of a tree; `figures` has the degrees by place.
-fn search_rows(
-    figures: &mut [u64; FIGURES],
-    nodes: usize,
-    ends: &[[u8; MOST_LINKS]; 2],
-    weights: &[u32; MOST_LINKS],
-    lists: &[u16; LISTS],
-    p: Places,
-    tree: u8,
-    before: Found,
-) -> Found
-    requires { Searchable ends.now lists.now p.node p.stops nodes }
-    ensures { (net : Network) (t : Tree) (c : Candidate)
-        → RowsHeld net t ends.now weights.now lists.now
-        p.place p.node p.stops p.links nodes nodes figures.old
-        → Prior (ahead fewer_nodes) net tree t c → Says before c
-        → Says result (first_from (ahead fewer_nodes) c (tree_candidates net tree t)) }
-{
-    let place = p.place;
-    let node = p.node;
-    let stops = p.stops;
-    let links = p.links;
-    let bytes = [place, node];
-    let mut best = before;
-    let mut u = nodes;
-    while u > 1 {
-        u -= 1;
-        make_row(figures, nodes, ends, weights, lists, &bytes, &stops, u);
-        best = search_row(figures, nodes, &stops, &links, tree, u, best);
+        next = figures.next_light(nodes, stops, u, v + 1, best.weight);
     }
     best
 }
@@ -125,8 +92,12 @@ pub fn search_tree(
         → Prior (ahead fewer_nodes) net tree t c → Says before c
         → Says result (first_from (ahead fewer_nodes) c (tree_candidates net tree t)) }
 {
-    let node = p.node;
-    let mut figures = [0u64; FIGURES];
-    weigh_places(&mut figures, nodes, &node, degrees);
-    search_rows(&mut figures, nodes, ends, weights, lists, p, tree, before)
+    let mut figures = NO_FIGURES;
+    figures.weigh_places(nodes, &p.node, degrees);
+    let mut best = before;
+    for u in (1..nodes).rev() {
+        figures.make_row(nodes, ends, weights, lists, &p.place, &p.node, &p.stops, u);
+        best = search_row(&figures, nodes, &p.stops, &p.links, tree, u, best);
+    }
+    best
 }

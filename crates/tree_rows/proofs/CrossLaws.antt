@@ -143,7 +143,7 @@ module _ (net : Network) (place : List ℕ) where
         omega arith
 
     -- every sum that a row needs stays below 2^45
-    degree-small : (y : ℕ) → degree net place y < 2 ^ 45
+    pub degree-small : (y : ℕ) → degree net place y < 2 ^ 45
     unfolding degree
     degree-small y = total _ (λ k.
         let a = at_most (eqb (left k) y) (weight k) in

@@ -5,7 +5,6 @@ pub mod RunLaws
 pub mod DegreeLaws
 pub mod WrapLaws
 pub mod AddLaws
-pub mod PartLaws
 pub mod SumLaws
 pub mod RowLaws
 pub mod LoopLaws

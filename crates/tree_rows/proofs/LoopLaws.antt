@@ -2,18 +2,28 @@
 -- Assumes nothing.
 use Rattle.std.proofs.Common.{◌≡◌, ℕ, suc, ◌+◌, ◌<◌, List, sym, ◌∙◌, subst, add-one, arith}
 use Rattle.cuts.specs.Network.{Network, Tree}
-use Rattle.tree_rows.specs.Rows.{PlaceDegrees, degrees_in}
+use Rattle.arrays.specs.Lists.{entry}
+use Rattle.arrays.specs.ByNode.{Degrees}
+use Rattle.tree_rows.specs.declared.Figures.{Figures}
 use Rattle.tree_rows.specs.Making.{TreeHeld, RowsHeld}
 use Rattle.tree_rows.specs.Reading.{RowHeld}
+use Rattle.tree_rows.proofs.DegreeLaws.{place-degrees}
 use Rattle.tree_rows.proofs.RowLaws.{row_end}
 
 module _ {net : Network} {t : Tree} {ends : List (List ℕ)} {weights lists place node stops links : List ℕ} {nodes : ℕ} where
-  pub rows_start : {figures : List ℕ} → TreeHeld net t ends weights lists place node stops links nodes → PlaceDegrees net place (degrees_in figures)
+  pub rows_start : (degrees : List ℕ) {figures : Figures} → TreeHeld net t ends weights lists place node stops links nodes → Degrees net degrees
+      → ((p : ℕ) → p < nodes → entry figures.degrees p ≡ entry degrees (entry node p))
       → RowsHeld net t ends weights lists place node stops links nodes nodes figures
-  rows_start h w = let n = h.indexed.laid.held.sized in record { tree_held = h; degrees = w; row = row_end net t _ _ _ _ _ (omega arith) }
+  rows_start degrees {figures} h d weighed =
+      let n = h.indexed.laid.held.sized in
+      record {
+        tree_held = h;
+        degrees = place-degrees h.kept h.indexed.loopless degrees figures.degrees d (λ p b. weighed p (omega arith));
+        row = row_end net t _ _ _ _ _ (omega arith);
+      }
 
   -- a row more: what is so of the rows behind x is so of those behind u, the place before x
-  pub rows-turn : (X : ℕ → Type 0) {Y : Type 0} {x u : ℕ} {before after : List ℕ} → 0 < u → x ≡ suc u
+  pub rows-turn : (X : ℕ → Type 0) {Y : Type 0} {x u : ℕ} {before after : Figures} → 0 < u → x ≡ suc u
       → (RowsHeld net t ends weights lists place node stops links nodes (suc u) before → RowsHeld net t ends weights lists place node stops links nodes u after)
       → (RowHeld net t place node stops links u after → net.nodes ≡ nodes → X (u + 1) → Y)
       → RowsHeld net t ends weights lists place node stops links nodes x before × X x

@@ -1,22 +1,22 @@
 -- A row made from the row behind it: where it starts, one node's links more, and the weights read off.
 -- Assumes nothing.
-use Rattle.std.proofs.Common.{◌≡◌, ℕ, zero, suc, ◌+◌, ◌%◌, ◌^◌, ◌<◌, ◌≤◌, ◌⊎◌, List, ◌++◌, length, set, replicate, sym, refl, ap, ◌∙◌, inl, inr, eq-or-lt_of_le, arith, get_or-set_other, get_or-set_same}
+use Rattle.std.proofs.Common.{◌≡◌, ℕ, zero, suc, ◌+◌, ◌^◌, ◌<◌, ◌≤◌, ◌⊎◌, List, ◌++◌, length, set, replicate, sym, refl, ap, ◌∙◌, inl, inr, eq-or-lt_of_le, arith, get_or-set_other, get_or-set_same}
 use Rattle.cuts.specs.Network.{Tree, Network}
 use Rattle.cuts.specs.Candidate.{one, weight_of}
-use Rattle.cuts.specs.Limits.{most_nodes, Light}
+use Rattle.cuts.specs.Limits.{Light}
 use Rattle.arrays.specs.Lists.{entry}
 use Rattle.arrays.specs.Kept.{Kept}
 use Rattle.tree_places.proofs.StopLaws.{stops_nest}
 use Rattle.search_order.specs.Visits.{handle_at}
-use Rattle.tree_rows.specs.Rows.{tally, degrees_from, singles_from, tallies_in, singles_in, sums_in, Added, Tallied, Summed, RowTallied, Row}
+use Rattle.tree_rows.specs.declared.Figures.{Figures}
+use Rattle.tree_rows.specs.Rows.{tally, Added, Tallied, Summed, RowTallied, Row}
 use Rattle.tree_rows.specs.Making.{RowStart}
 use Rattle.tree_rows.proofs.CrossLaws.{tally_join, tally-none, tally-small, crossing-small}
 use Rattle.tree_rows.proofs.PairLaws.{single-sum, pair-sum, pair-room}
-use Rattle.tree_rows.proofs.WrapLaws.{wrap_pair}
-use Rattle.tree_rows.proofs.PartLaws.{singles_in-at, sums_in-at}
+use Rattle.tree_rows.proofs.WrapLaws.{less, more, wrap_pair}
 
 -- behind the last place there is no row yet
-pub row_end : (net : Network) (t : Tree) (place stops links : List ℕ) (u : ℕ) (figures : List ℕ) → net.nodes ≤ u → Row net t place stops links u figures
+pub row_end : (net : Network) (t : Tree) (place stops links : List ℕ) (u : ℕ) (figures : Figures) → net.nodes ≤ u → Row net t place stops links u figures
 row_end net t place stops links u figures l = record { tallied = λ b. absurd (omega arith); summed = λ b. absurd (omega arith); alone = λ v a b. absurd (omega arith) }
 
 -- ---- where a row starts
@@ -73,35 +73,37 @@ module _ {net : Network} {t : Tree} {place node stops links : List ℕ} (w : Kep
 
 module _ {net : Network} {t : Tree} {place node stops links : List ℕ} (w : Kept net t place node stops links) (u : ℕ) (z : 0 < u) where
   -- from the tallies and sums of u and the singles behind it
-  pub row_made : {before figures : List ℕ} {single : ℕ} → u < net.nodes → Row net t place stops links (suc u) before
-      → Tallied net place u (entry stops u) (tallies_in figures) → Summed net place u (entry stops u) net.nodes (sums_in figures)
-      → single ≡ entry (sums_in figures) (entry stops u) → singles_in figures ≡ set (singles_in before) u single → u < length (singles_in before)
+  pub row_made : {before figures : Figures} → u < net.nodes → Row net t place stops links (suc u) before
+      → Tallied net place u (entry stops u) figures.tallies → Summed net place u (entry stops u) net.nodes figures.sums
+      → figures.singles ≡ set before.singles u (entry figures.sums (entry stops u)) → u < length before.singles
       → Row net t place stops links u figures
-  row_made {before} {figures} {single} b r k m e o i = record { tallied = λ _. k; summed = λ _. m; alone = λ v a d. go v d (eq-or-lt_of_le a) }
+  row_made {before} {figures} b r k m o i = record { tallied = λ _. k; summed = λ _. m; alone = λ v a d. go v d (eq-or-lt_of_le a) }
     where
-      at : (v : ℕ) → entry (singles_in figures) v ≡ entry (set (singles_in before) u single) v
+      at : (v : ℕ) → entry figures.singles v ≡ entry (set before.singles u (entry figures.sums (entry stops u))) v
       at v = ap (λ (l : List ℕ). entry l v) o
 
-      go : (v : ℕ) → v < net.nodes → (u ≡ v) ⊎ (u < v) → entry (singles_in figures) v ≡ weight_of net t (one (entry links v))
+      go : (v : ℕ) → v < net.nodes → (u ≡ v) ⊎ (u < v) → entry figures.singles v ≡ weight_of net t (one (entry links v))
       go v d (inl q) =
           rw (← q)
-          (at u ∙ get_or-set_same (singles_in before) u single 0 i ∙ e ∙ m.is (entry stops u) (omega (arith, w.some u b)) (w.most u b) ∙ sym (single-sum w u z b))
-      go v d (inr q) = at v ∙ get_or-set_other (singles_in before) u v single 0 (λ n. omega arith) ∙ r.alone v q d
+          (at u ∙ get_or-set_same before.singles u _ 0 i ∙ m.is (entry stops u) (omega (arith, w.some u b)) (w.most u b) ∙ sym (single-sum w u z b))
+      go v d (inr q) = at v ∙ get_or-set_other before.singles u v _ 0 (λ n. omega arith) ∙ r.alone v q d
 
-  pub row-pair : {figures : List ℕ} → Light net → Row net t place stops links u figures → (v : ℕ) → u < v → v < net.nodes → v < most_nodes → entry stops v < degrees_from
-      → {shared sum twice r : ℕ} → (shared + entry figures v) % 2 ^ 64 ≡ entry figures (entry stops v) → shared < 2 ^ 64
-      → sum ≡ (entry figures (singles_from + u) + entry figures (singles_from + v)) % 2 ^ 64
-      → twice ≡ (shared + shared) % 2 ^ 64 → (r + twice) % 2 ^ 64 ≡ sum → r < 2 ^ 64 → r ≡ weight_of net t (handle_at links u v)
-  row-pair {figures} l k v a b few near e m g i j n =
+  pub row-pair : {figures : Figures} → Light net → Row net t place stops links u figures → (v : ℕ) → u < v → v < net.nodes
+      → less (more (entry figures.singles u) (entry figures.singles v))
+      (more (less (entry figures.sums (entry stops v)) (entry figures.sums v)) (less (entry figures.sums (entry stops v)) (entry figures.sums v)))
+      ≡ weight_of net t (handle_at links u v)
+  row-pair {figures} l k v a b =
       let c : u < net.nodes = omega arith in
-      let x = sym (sums_in-at figures v (omega arith)) ∙ (k.summed c).is v (omega arith) (omega arith) in
-      let y = sym (sums_in-at figures (entry stops v) near) ∙ (k.summed c).is (entry stops v) (omega (arith, w.some v b)) (w.most v b) in
-      let su = sym (singles_in-at figures u (omega arith)) ∙ k.alone u (omega arith) c in
-      let sv = sym (singles_in-at figures v few) ∙ k.alone v (omega arith) b in
+      let x = (k.summed c).is v (omega arith) (omega arith) in
+      let y = (k.summed c).is (entry stops v) (omega (arith, w.some v b)) (w.most v b) in
+      let su = k.alone u (omega arith) c in
+      let sv = k.alone v (omega arith) b in
       let o = pair-room w u v z a b in
       let tu = single-sum w u z c in
       let tv = single-sum w v (omega arith) b in
       let bu = crossing-small net place l u (entry stops u) u (entry stops u) in
       let bv = crossing-small net place l v (entry stops v) v (entry stops v) in
-      wrap_pair (entry figures (singles_from + u)) (entry figures (singles_from + v)) (entry figures v) (omega (arith, o.0)) (rw (x, y, su, sv) o.1) (omega arith) e m g i j n
+      let by = crossing-small net place l u (entry stops u) u (entry stops v) in
+      wrap_pair (entry figures.singles u) (entry figures.singles v) (entry figures.sums (entry stops v)) (entry figures.sums v)
+      (omega (arith, o.0)) (omega (arith, y)) (rw (x, y, su, sv) o.1) (omega arith)
       ∙ rw (x, y, su, sv) (sym (pair-sum w u v z a b))

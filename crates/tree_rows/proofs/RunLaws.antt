@@ -14,8 +14,7 @@ use Rattle.by_node.proofs.EndsLaws.{links_at-of, run_mem}
 use Rattle.by_node.proofs.RunLaws.{run-sum}
 use Rattle.arrays.specs.Kept.{within, Kept}
 use Rattle.tree_places.proofs.WithinLaws.{within_in, within-is}
-use Rattle.tree_rows.specs.Rows.{sum_over, weight_at, first_place, second_place, tally}
-use Rattle.tree_rows.proofs.OverLaws.{over-shift}
+use Rattle.tree_rows.specs.Rows.{weight_at, first_place, second_place, tally}
 
 -- what link k gives to place y from its end at x, as the arrays have it
 abbrev pub gives : List ℕ → List ℕ → List ℕ → List ℕ → ℕ → ℕ → ℕ → ℕ
@@ -52,14 +51,11 @@ module _ {net : Network} {t : Tree} {place node stops ups : List ℕ} (w : Kept 
   -- the links of node x, by its run
   pub run-links : {fs ss ws head list : List ℕ} {nodes links : ℕ} → Laid net fs ss ws nodes links → Loopless net → ByNode fs ss (table links (λ k. k)) head list nodes
       → (x y : ℕ) → x < net.nodes
-      → sum_over (entry head x) (entry head (x + 1)) (λ i. gives fs ss ws place x y (entry list i)) ≡ tally net place (entry place x) (suc (entry place x)) y
+      → sum_to (entry head (x + 1) - entry head x) (λ i. gives fs ss ws place x y (entry list (entry head x + i))) ≡ tally net place (entry place x) (suc (entry place x)) y
   unfolding tally
   run-links {fs} {ss} {ws} {head} {list} {links = links} l apart e x y b =
       let s = l.held.sized in
-      let h : ℕ = entry head x in
-      let r : entry head (x + 1) ≡ h + (entry head (x + 1) - h) = omega (arith, e.rises x (omega arith)) in
-      ap (λ (to : ℕ). sum_over h to (λ i. gives fs ss ws place x y (entry list i))) r ∙ over-shift h (entry head (x + 1) - h) (λ i. gives fs ss ws place x y (entry list i))
-      ∙ run-sum links e x (omega arith) (gives fs ss ws place x y)
+      run-sum links e x (omega arith) (gives fs ss ws place x y)
       ∙ ap (λ (n : ℕ). sum_to n (λ k. only (touches fs ss x k) (gives fs ss ws place x y k))) (sym l.weighed.counted)
       ∙ sum_congr (link_count net) _ _ at
     where

@@ -4,8 +4,9 @@
 --   RowAt st n u                            of n nodes, u is a place behind the root's, and st is stopped
 --   ColumnAt st u v                         v is u or a place behind it, and st is stopped
 --   RowFrom st n u from                     of n nodes, `from` is a place behind u or the end, and st is stopped
---   NextLight figures n st u from limit r   r is the first place from `from` on whose link, with that at u, weighs no more than the limit, or
---                                           n where there is none
+--   Heavy figures n st u from limit end     each place from `from` on and in front of `end` has a link that, with that at u, weighs more
+--                                           than the limit, in every tree of n nodes whose row the figures have
+--   NextLight figures n st u from limit r   r is the first place from `from` on whose link, with that at u, weighs no more than the limit
 use Rattle.std.specs.Prelude.{◌≡◌, ℕ, ◌<◌, ◌≤◌, List}
 use Rattle.cuts.specs.Network.{Network, Tree}
 use Rattle.cuts.specs.Candidate.{weight_of}
@@ -13,9 +14,10 @@ use Rattle.cuts.specs.Limits.{most_nodes, Light}
 use Rattle.arrays.specs.Kept.{Kept}
 use Rattle.tree_places.specs.Places.{StopsKnown}
 use Rattle.search_order.specs.Visits.{handle_at}
+use Rattle.tree_rows.specs.declared.Figures.{Figures}
 use Rattle.tree_rows.specs.Rows.{Row}
 
-pub record RowHeld (net : Network) (t : Tree) (place node stops links : List ℕ) (u : ℕ) (figures : List ℕ) : Type 0 where
+pub record RowHeld (net : Network) (t : Tree) (place node stops links : List ℕ) (u : ℕ) (figures : Figures) : Type 0 where
   pub light : Light net
   pub kept : Kept net t place node stops links
   pub row : Row net t place stops links u figures
@@ -43,12 +45,16 @@ pub record RowFrom (stops : List ℕ) (nodes u from : ℕ) : Type 0 where
   pub behind : u < from
   pub up_to : from ≤ nodes
 
-pub record NextLight (figures : List ℕ) (nodes : ℕ) (stops : List ℕ) (u from limit r : ℕ) : Type 0 where
+abbrev pub Heavy : Figures → ℕ → List ℕ → ℕ → ℕ → ℕ → ℕ → Type 0
+Heavy figures nodes stops u from limit end =
+    (net : Network) (t : Tree) (place node links : List ℕ)
+    → RowHeld net t place node stops links u figures → net.nodes ≡ nodes
+    → (v : ℕ) → from ≤ v → v < end → limit < weight_of net t (handle_at links u v)
+
+pub record NextLight (figures : Figures) (nodes : ℕ) (stops : List ℕ) (u from limit r : ℕ) : Type 0 where
   pub behind : from ≤ r
-  pub up_to : r ≤ nodes
-  pub heavy : (net : Network) (t : Tree) (place node links : List ℕ)
-      → RowHeld net t place node stops links u figures → net.nodes ≡ nodes
-      → (v : ℕ) → from ≤ v → v < r → limit < weight_of net t (handle_at links u v)
+  pub inside : r < nodes
+  pub heavy : Heavy figures nodes stops u from limit r
   pub light : (net : Network) (t : Tree) (place node links : List ℕ)
       → RowHeld net t place node stops links u figures → net.nodes ≡ nodes
-      → r < nodes → weight_of net t (handle_at links u r) ≤ limit
+      → weight_of net t (handle_at links u r) ≤ limit

@@ -1,15 +1,38 @@
--- `pair_rows::write_pairs` meets its contract: the figures begin with the degrees by place. Assumes nothing.
-use native.Mathlib.Omega.{arith}
-use Rattle.tree_rows.proofs.DegreeLaws.{place-degrees}
-use Rattle.tree_rows.proofs.LoopLaws.{rows_start}
+-- What is left to prove of `write_pairs`.
+use Rattle.std.proofs.Common.{ℕ, ◌-◌, ◌≤◌, length, sym, subst, arith}
+use Rattle.pairs.specs.Slots.{row_start}
+use Rattle.tree_rows.proofs.LoopLaws.{rows_start, rows-turn}
+use Rattle.pair_rows.specs.Writing.{PairsTo, BehindPairs}
+use Rattle.pair_rows.proofs.WritingLaws.{behind-start, behind_more, pairs_start, pairs_end}
 use Rattle.pair_rows.proofs.write_pairs.Goals as goal
 
+pub loop-u-init : goal.loop-u-init
+loop-u-init c =
+    let a = c.args in (
+      behind-start a.nodes a.area.now,
+      λ net t h d. (
+        rows_start _ (record { count = h.count; indexed = h.indexed; kept = h.ranked.kept }) d c.weigh_places.ensures.by_index,
+        pairs_start net t h.ranked.links a.r.rank a.nodes a.area.now,
+      ),
+    )
+
+pub loop-u-preserved : goal.loop-u-preserved
+loop-u-preserved c =
+    let l = c.loop-u in
+    let a = c.args in (
+      behind_more l.invariant.0 c.write_row.ensures.behind,
+      λ net t h d.
+          let links = h.ranked.links in
+          rows-turn (λ u. PairsTo net t links a.r.rank a.nodes u a.nodes l.area) (omega arith) (omega arith)
+          (c.make_row.ensures net t links) (c.write_row.ensures.more net t a.r.place a.r.node links) (l.invariant.1 net t h d),
+    )
+
 pub returns : goal.returns
-returns c =
-    λ net t h d.
-    let k = h.ranked.kept in
+returns c net t h d =
+    let l = c.loop-u in
+    let a = c.args in
     let n = h.indexed.laid.held.sized in
-    c.write_rows.ensures net t h.ranked.links c.args.r.at
-    (rows_start (record { count = h.count; indexed = h.indexed; kept = k })
-    (place-degrees k h.indexed.loopless c.args.degrees.now _ d (λ y b. c.weigh_places.ensures.by_index y (omega arith))))
-    h.ranked.ranks
+    pairs_end h.ranked.kept.spanning h.ranked.ranks l.u (omega arith) a.area.now l.area
+    (subst (λ (m : ℕ). row_start (m - 1) ≤ length a.area.now) (sym n) c.requires.room)
+    (subst (λ (m : ℕ). BehindPairs m a.area.now l.area) (sym n) l.invariant.0)
+    (subst (λ (m : ℕ). PairsTo net t h.ranked.links a.r.rank m l.u m l.area) (sym n) (l.invariant.1 net t h d).1)

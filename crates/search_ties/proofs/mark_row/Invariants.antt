@@ -1,20 +1,16 @@
--- `search_ties::mark_row` meets its contract. The loop's invariant: of what was passed up to column v the light ones are marked.
+-- `search_ties::mark_row` meets its contract. The loop's invariant: of what was passed up to the column `from` the light ones are marked.
 -- Assumes nothing.
-use Prim.Native.Nat.{ℕ, ◌-◌, ◌≤◌, ◌<◌}
-use mathlib.Core.Path.{◌≡◌}
-use mathlib.Core.List.{List}
+use Rattle.std.proofs.Common.{◌≡◌, ℕ, ◌-◌, ◌<◌, ◌≤◌, List}
 use Rattle.cuts.specs.Network.{Network, Tree}
 use Rattle.tree_rows.specs.Reading.{RowHeld}
-use Rattle.search_ties.specs.Ties.{weight_of_places, InRows, LightMarked}
+use Rattle.search_ties.specs.Ties.{InRows, LightMarked}
 use Rattle.search_ties.proofs.mark_row.Given as goal
 
 abbrev pub invariant-loop-v : goal.invariant-loop-v
 invariant-loop-v l =
-    (l.u < l.v) × (l.v ≤ l.nodes)
+    (l.u < l.from) × (l.from ≤ l.nodes)
     × ((net : Network) (t : Tree) (place node links : List ℕ) → RowHeld net t place node l.stops links l.u l.figures → net.nodes ≡ l.nodes
-    → LightMarked net t links l.rank (InRows l.nodes l.u l.initial.v) l.limit l.initial.table → LightMarked net t links l.rank (InRows l.nodes l.u l.v) l.limit l.table)
-    × ((net : Network) (t : Tree) (place node links : List ℕ) → RowHeld net t place node l.stops links l.u l.figures → net.nodes ≡ l.nodes
-    → l.v < l.nodes → weight_of_places net t links l.u l.v ≤ l.limit)
+    → LightMarked net t links l.rank (InRows l.nodes l.u l.initial.from) l.limit l.initial.table → LightMarked net t links l.rank (InRows l.nodes l.u l.from) l.limit l.table)
 
 abbrev pub decreases-loop-v : goal.decreases-loop-v
-decreases-loop-v l = l.nodes - l.v
+decreases-loop-v l = l.nodes - l.from

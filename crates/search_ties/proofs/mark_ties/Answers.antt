@@ -1,15 +1,30 @@
--- `search_ties::mark_ties` meets its contract: the figures begin with the degrees by place. Assumes nothing.
-use native.Mathlib.Omega.{arith}
-use Rattle.tree_rows.proofs.DegreeLaws.{place-degrees}
-use Rattle.tree_rows.proofs.LoopLaws.{rows_start}
+-- What is left to prove of `mark_ties`.
+use Rattle.std.proofs.Common.{ℕ, length, sym, subst, arith}
+use Rattle.tree_rows.proofs.LoopLaws.{rows_start, rows-turn}
+use Rattle.search_ties.specs.Ties.{InRows, LightMarked}
+use Rattle.search_ties.proofs.MarkLaws.{marked_start}
+use Rattle.search_ties.proofs.TableLaws.{marked_end}
 use Rattle.search_ties.proofs.mark_ties.Goals as goal
 
+pub loop-u-init : goal.loop-u-init
+loop-u-init c net t h d =
+    let a = c.args in (
+      rows_start _ (record { count = h.count; indexed = h.indexed; kept = h.ranked.kept }) d c.weigh_places.ensures.by_index,
+      rw c.requires.clear (marked_start a.nodes a.nodes (length a.table.now) (omega arith)),
+    )
+
+pub loop-u-preserved : goal.loop-u-preserved
+loop-u-preserved c net t h d =
+    let l = c.loop-u in
+    let a = c.args in
+    let links = h.ranked.links in
+    rows-turn (λ u. LightMarked net t links a.r.rank (InRows a.nodes u a.nodes) a.limit l.table) (omega arith) (omega arith)
+    (c.make_row.ensures net t links) (c.mark_row.ensures net t a.r.place a.r.node links) (l.invariant net t h d)
+
 pub returns : goal.returns
-returns c =
-    λ net t h d.
-    let k = h.ranked.kept in
+returns c net t h d =
+    let l = c.loop-u in
+    let a = c.args in
     let n = h.indexed.laid.held.sized in
-    c.mark_rows.ensures net t h.ranked.links c.args.r.at
-    (rows_start (record { count = h.count; indexed = h.indexed; kept = k })
-    (place-degrees k h.indexed.loopless c.args.degrees.now _ d (λ y b. c.weigh_places.ensures.by_index y (omega arith))))
-    h.ranked.ranks
+    marked_end (omega (arith, c.requires.searchable.few_nodes)) h.ranked.kept.spanning.counted h.ranked.ranks (omega arith)
+    (subst (λ (m : ℕ). LightMarked net t h.ranked.links a.r.rank (InRows m l.u m) a.limit l.table) (sym n) (l.invariant net t h d).1)

@@ -4,7 +4,6 @@ use Prim.Native.Nat.{ℕ, ◌<◌}
 use mathlib.Core.Path.{sym, ap, ◌∙◌, subst}
 use native.Mathlib.Omega.{arith}
 use Rattle.cuts.specs.Candidate.{candidate, weight_of}
-use Rattle.tree_rows.proofs.PartLaws.{singles_in-at}
 use Rattle.search_order.specs.Choice.{Says}
 use Rattle.search_order.specs.Visits.{handle_at}
 use Rattle.search_order.proofs.ReachedLaws.{says-pair}
@@ -18,7 +17,7 @@ returns-then-u-v c net t place node h b =
     let ls = a.links.now in
     let e = c.if-u-v.true in
     let d : u < net.nodes = omega (arith, e) in
-    let weight = sym (singles_in-at a.figures.now u (omega (arith, c.requires.place_in, e))) ∙ h.row.alone u (omega arith) d ∙ ap (weight_of net t) (sym (handle-one ls u)) in
+    let weight = h.row.alone u (omega arith) d ∙ ap (weight_of net t) (sym (handle-one ls u)) in
     subst (λ (v : ℕ). Says c.pair_of.result (candidate net a.tree t (handle_at ls u v))) e
     (says-pair net t ls u u c.pair_of.ensures weight (c.single_count-below.ensures net t place node ls h.kept h.some d))
 

@@ -1,18 +1,30 @@
--- `search_tree::search_row` meets its contract. The loop's invariant: what is found is the first of what was reached up to column v.
+-- `search_tree::search_row` meets its contract. The loop's invariant: what is found is the first of what was reached up to the next column, or
+-- of the whole row where there is none.
 -- Assumes nothing.
-use Prim.Native.Nat.{ℕ, ◌+◌, ◌-◌, ◌≤◌}
-use mathlib.Core.Path.{◌≡◌}
-use mathlib.Core.List.{List}
+use Rattle.std.proofs.Common.{◌≡◌, ℕ, ◌+◌, ◌-◌, ◌<◌, ◌≤◌, List, Option, Some, None, MatchOption}
 use Rattle.cuts.specs.Network.{Network, Tree}
 use Rattle.cuts.specs.Candidate.{Candidate, fewer_nodes, ahead}
+use Rattle.tree_rows.specs.declared.Figures.{Figures}
 use Rattle.tree_rows.specs.Reading.{RowHeld}
+use Rattle.search_order.specs.declared.Found.{Found}
 use Rattle.search_order.specs.Visits.{Reached}
 use Rattle.search_tree.proofs.search_row.Given as goal
 
-abbrev pub invariant-loop-v : goal.invariant-loop-v
-invariant-loop-v l =
-    (l.u ≤ l.v) × (l.v ≤ l.nodes) × ((net : Network) (t : Tree) (c : Candidate) (place node : List ℕ) → RowHeld net t place node l.stops l.links l.u l.figures → net.nodes ≡ l.nodes
-    → Reached (ahead fewer_nodes) c net l.tree t l.links (l.u + 1) l.nodes l.initial.best → Reached (ahead fewer_nodes) c net l.tree t l.links l.u l.v l.best)
+-- the columns from the next on
+abbrev pub columns_left : ℕ → Option ℕ → ℕ
+columns_left nodes (Some v) = nodes - v
+columns_left nodes None = 0
 
-abbrev pub decreases-loop-v : goal.decreases-loop-v
-decreases-loop-v l = l.nodes - l.v
+-- where `before` was found in the rows behind u, `best` is the first of what was reached in row u up to the column v
+abbrev pub UpTo : Figures → ℕ → List ℕ → List ℕ → ℕ → ℕ → Found → Found → ℕ → Type 0
+UpTo figures nodes stops links tree u before best v =
+    (net : Network) (t : Tree) (c : Candidate) (place node : List ℕ) → RowHeld net t place node stops links u figures → net.nodes ≡ nodes
+    → Reached (ahead fewer_nodes) c net tree t links (u + 1) nodes before → Reached (ahead fewer_nodes) c net tree t links u v best
+
+abbrev pub invariant-loop-next : goal.invariant-loop-next
+invariant-loop-next l =
+    let Best : ℕ → Type 0 = UpTo l.figures l.nodes l.stops l.links l.tree l.u l.initial.best l.best in
+    MatchOption l.next (Best l.nodes) (λ v. (l.u ≤ v) × (v < l.nodes) × Best v)
+
+abbrev pub decreases-loop-next : goal.decreases-loop-next
+decreases-loop-next l = columns_left l.nodes l.next

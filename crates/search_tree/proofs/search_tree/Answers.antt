@@ -1,13 +1,26 @@
--- `search_tree::search_tree` meets its contract: the figures begin with the degrees by place. Assumes nothing.
-use native.Mathlib.Omega.{arith}
-use Rattle.tree_rows.proofs.DegreeLaws.{place-degrees}
-use Rattle.tree_rows.proofs.LoopLaws.{rows_start}
+-- What is left to prove of `search_tree`.
+use Rattle.std.proofs.Common.{arith}
+use Rattle.cuts.specs.Candidate.{fewer_nodes, ahead}
+use Rattle.tree_rows.proofs.LoopLaws.{rows_start, rows-turn}
+use Rattle.search_order.specs.Visits.{Reached}
+use Rattle.cuts.proofs.Demands.{ahead-weighing}
+use Rattle.search_order.proofs.ReachedLaws.{reached-start, reached_end}
 use Rattle.search_tree.proofs.search_tree.Goals as goal
 
-pub returns : goal.returns
-returns c =
-    λ net t x h d p says.
+pub loop-u-init : goal.loop-u-init
+loop-u-init c net t x h d says =
     let n = h.indexed.laid.held.sized in
-    c.search_rows.ensures net t x
-    (rows_start h (place-degrees h.kept h.indexed.loopless c.args.degrees.now _ d (λ y b. c.weigh_places.ensures.by_index y (omega arith))))
-    p says
+    (rows_start _ h d c.weigh_places.ensures.by_index, reached-start (ahead-weighing fewer_nodes).order _ _ (omega arith) says)
+
+pub loop-u-preserved : goal.loop-u-preserved
+loop-u-preserved c net t x h d says =
+    let l = c.loop-u in
+    let a = c.args in
+    rows-turn (λ u. Reached (ahead fewer_nodes) x net a.tree t a.p.links u a.nodes l.best) (omega arith) (omega arith)
+    (c.make_row.ensures net t a.p.links) (c.search_row-best.ensures net t x a.p.place a.p.node) (l.invariant net t x h d says)
+
+pub returns : goal.returns
+returns c net t x h d p says =
+    let l = c.loop-u in
+    let n = h.indexed.laid.held.sized in
+    reached_end (ahead-weighing fewer_nodes).order h.kept.links-at l.u _ (omega arith) (omega arith) p (l.invariant net t x h d says).1

@@ -1,8 +1,7 @@
 -- `tree_rows::start_row` meets its contract. Where u + 1 is below u, its run lies in u's; else there is nothing behind u below it, and the
 -- zeros are the tallies of no places.
 -- Assumes nothing.
-use Rattle.std.proofs.Common.{◌<◌, add-one, arith}
-use borrow.Rule.Slice.PartMut.{mid_len}
+use Rattle.std.proofs.Common.{◌≡◌, ◌<◌, length, take, replicate, add-one, arith, length-take-le}
 use Rattle.tree_rows.proofs.RowLaws.{start-child, start_leaf, cleared}
 use Rattle.tree_rows.proofs.start_row.Goals as goal
 
@@ -15,5 +14,5 @@ returns-then-u-stops c net t place node links k n z d h =
 pub returns-else-u-stops : goal.returns-else-u-stops
 returns-else-u-stops c net t place node links k n z d h =
     let a = c.args in
-    let lent = mid_len 0 a.nodes a.f.now (omega arith) in
-    rw (add-one a.u) (start_leaf k a.u (omega arith) (λ y b. cleared _ c.clear.ensures lent y (omega arith)))
+    let zeros : c.fill.new.self ≡ replicate (length (take a.nodes a.tallies.now)) 0 = c.fill.ensures.after (λ y e. e) in
+    rw (add-one a.u) (start_leaf k a.u (omega arith) (λ y b. cleared _ zeros (length-take-le a.nodes a.tallies.now (omega arith)) y (omega arith)))

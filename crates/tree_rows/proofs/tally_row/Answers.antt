@@ -1,16 +1,14 @@
 -- `tree_rows::tally_row` meets its contract, by what the calls ensure in turn: what is behind u and below it is tallied, then u's own links.
 -- Assumes nothing.
-use Rattle.std.proofs.Common.{suc, ◌∙◌, arith, rules}
+use Rattle.std.proofs.Common.{suc, arith}
 use Rattle.tree_rows.proofs.RowLaws.{tallied_front}
 use Rattle.tree_rows.proofs.tally_row.Goals as goal
 
 pub add_run-requires : goal.add_run-requires
 add_run-requires c =
-    let p = c.requires.startable in
     let q = c.requires.searchable in
     record {
-      for_places = c.start_row-from.auto.f ∙ p.for_places;
-      few_places = omega (arith, p.stops_in c.args.u p.place_in);
+      few_places = omega (arith, q.stops_in c.args.u c.requires.place_in);
       nodes = c.args.nodes;
       nodes-in = q.nodes-in;
       links_listed = q.links_listed;
@@ -18,21 +16,11 @@ add_run-requires c =
 
 pub add_links-requires : goal.add_links-requires
 add_links-requires c =
-    let p = c.requires.startable in
     let q = c.requires.searchable in
-    record {
-      for_places = c.add_run.auto.f ∙ c.start_row-from.auto.f ∙ p.for_places;
-      all_weights = search rules;
-      all_lists = search rules;
-      all_places = search rules;
-      nodes = c.args.nodes;
-      node_in = q.nodes-in c.args.u p.place_in;
-      links_listed = q.links_listed;
-    }
+    record { nodes = c.args.nodes; node_in = q.nodes-in c.args.u c.requires.place_in; links_listed = q.links_listed }
 
 pub returns : goal.returns
-returns c =
-    λ net t links h z before b.
+returns c net t links h z before b =
     let u = c.args.u in
     let k = h.kept in
     let n = h.indexed.laid.held.sized in
