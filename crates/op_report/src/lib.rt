@@ -4,13 +4,15 @@
 ghost use Rattle.std.specs.Prelude.{◌≡◌};
 ghost use Rattle.sheet.specs.Sheet.{current};
 ghost use Rattle.sheet.specs.Areas.{second_link};
+ghost use Rattle.format.specs.Refusals.{returned};
 ghost use Rattle.arrays.specs.Records.{network_at};
 ghost use Rattle.search_order.specs.Choice.{chosen};
 ghost use Rattle.op_report.specs.Reports.{Room, Lent, AreasWritten, Writable, AnswerWritten, SheetReported};
 
 use arrays::Layout;
 use format::limits::MOST_LINKS;
-use read_sheet::{Outcome, read_sheet};
+use format::refusals::Refusal;
+use read_sheet::read_sheet;
 use search_answer::{Answer, answer_sheet};
 use write_areas::{NO_SECOND, Report, put_side, write_report};
 
@@ -26,10 +28,8 @@ fn write_both(side: &mut [u8], report: &mut [u8], a: Answer)
     requires { Room side.old report.old }
     ensures { AreasWritten a side.old report.old side.new report.new }
 {
-    let best = a.best;
-    let words = best.side;
-    put_side(side, 0, words);
-    let found = best.found;
+    put_side(side, 0, a.best.side);
+    let found = a.best.found;
     let fields = Report {
         verdict: a.verdict,
         tree: found.tree,
@@ -60,24 +60,19 @@ fn write_answer(
     write_both(side, report, a);
 }
 
-// Reads a sheet, in work arrays that are lent, writes both areas, and returns 0; or returns the number of the first refusal and leaves both
-// as they were.
+// Reads a sheet, in work arrays that are lent, and writes both areas; or answers the first refusal and leaves both as they were.
 pub fn report_sheet(
     side: &mut [u8],
     report: &mut [u8],
     ends: &mut [[u8; MOST_LINKS]; 2],
     weights: &mut [u32; MOST_LINKS],
     sheet: &[u8],
-) -> u32
+) -> Result<(), Refusal>
     requires { Lent side.old report.old ends.old weights.old }
     ensures { SheetReported current sheet.now
-        side.old report.old side.new report.new result }
+        side.old report.old side.new report.new (returned result) }
 {
-    match read_sheet(ends, weights, sheet) {
-        Outcome::Read(l) => {
-            write_answer(side, report, sheet, l, ends, weights);
-            0
-        }
-        Outcome::Refused(n) => n,
-    }
+    let l = read_sheet(ends, weights, sheet)?;
+    write_answer(side, report, sheet, l, ends, weights);
+    Ok(())
 }

@@ -5,4 +5,4 @@ use Rattle.op_report.proofs.report_sheet.Goals as goal
 
 pub write_answer-requires : goal.write_answer-requires
 write_answer-requires c =
-    record { room = c.requires.room; held = sheet-held c.read_sheet.ensures c.in-Read.is }
+    record { room = c.requires.room; held = sheet-held c.read_sheet.ensures c.in_ok-l.was }
