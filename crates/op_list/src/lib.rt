@@ -4,6 +4,7 @@
 ghost use Rattle.std.specs.Prelude.{[]};
 ghost use Rattle.sheet.specs.Sheet.{current};
 ghost use Rattle.listing.specs.ListArea.{fitting, list_reading};
+ghost use Rattle.format.specs.Refusals.{returned};
 ghost use Rattle.arrays.specs.Links.{LinkArrays};
 ghost use Rattle.arrays.specs.Records.{network_at, SheetHeld};
 ghost use Rattle.op_list.specs.Lists.{WeightKnown, ListLeft};
@@ -11,9 +12,9 @@ ghost use Rattle.op_list.specs.Lists.{WeightKnown, ListLeft};
 use arrays::Layout;
 use by_node::{LISTS, index_links};
 use format::limits::{MOST_LINKS, MOST_NODES, MOST_TREES, SIDE_LENGTH};
-use format::refusals;
+use format::refusals::Refusal;
 use list_trees::{count_sides, start_slots, write_sides};
-use read_sheet::{Outcome, read_sheet};
+use read_sheet::read_sheet;
 use search_sheet::search_listed;
 
 // Writes the list of the network, whose links are listed by node, if the area has room for it; the limit is its reported weight.
@@ -27,11 +28,11 @@ fn list_listed(
     lists: &[u16; LISTS],
     degrees: &[u64; MOST_NODES],
     limit: u64,
-) -> u32
+) -> Result<(), Refusal>
     requires { WeightKnown s.now ends.now weights.now lists.now degrees.now l limit }
     ensures { ListLeft current (fitting current sides.old
         (network_at s.now ends.now weights.now l) [])
-        sides.old sides.new count.new result }
+        sides.old sides.new count.new (returned result) }
 {
     let most = sides.len() / SIDE_LENGTH;
     let mut next = [0u32; MOST_NODES];
@@ -41,14 +42,14 @@ fn list_listed(
     );
     if most < total as usize {
         *count = 0;
-        return refusals::SHORT_LIST;
+        return Err(Refusal::ShortList);
     }
     start_slots(&mut next);
     write_sides(
         sides, &mut next, &news, s, l, ends, weights, lists, degrees, limit,
     );
     *count = total;
-    0
+    Ok(())
 }
 
 // Writes the list of the network that was read from the sheet into the arrays, if the area has room for it.
@@ -59,11 +60,11 @@ fn list_network(
     l: Layout,
     ends: &[[u8; MOST_LINKS]; 2],
     weights: &[u32; MOST_LINKS],
-) -> u32
+) -> Result<(), Refusal>
     requires { SheetHeld current s.now ends.now weights.now l }
     ensures { ListLeft current (fitting current sides.old
         (network_at s.now ends.now weights.now l) [])
-        sides.old sides.new count.new result }
+        sides.old sides.new count.new (returned result) }
 {
     let mut lists = [0u16; LISTS];
     let mut degrees = [0u64; MOST_NODES];
@@ -82,24 +83,20 @@ fn list_network(
     )
 }
 
-// Reads a sheet, in work arrays that are lent, writes the sides of its list and their number, and returns 0; or returns the number of the
-// first refusal, writes 0 for the number of sides and leaves the area as it was.
+// Reads a sheet, in work arrays that are lent, and writes the sides of its list and their number; or answers the first refusal, writes 0 for
+// the number of sides and leaves the area as it was.
 pub fn list_sheet(
     sides: &mut [u8],
     count: &mut u32,
     ends: &mut [[u8; MOST_LINKS]; 2],
     weights: &mut [u32; MOST_LINKS],
     sheet: &[u8],
-) -> u32
+) -> Result<(), Refusal>
     requires { LinkArrays ends.old weights.old }
     ensures { ListLeft current (list_reading current sheet.now sides.old)
-        sides.old sides.new count.new result }
+        sides.old sides.new count.new (returned result) }
 {
-    match read_sheet(ends, weights, sheet) {
-        Outcome::Read(l) => list_network(sides, count, sheet, l, ends, weights),
-        Outcome::Refused(n) => {
-            *count = 0;
-            n
-        }
-    }
+    *count = 0;
+    let l = read_sheet(ends, weights, sheet)?;
+    list_network(sides, count, sheet, l, ends, weights)
 }
