@@ -6,6 +6,7 @@ ghost use Rattle.cuts.specs.Network.{tree_at};
 ghost use Rattle.sheet.specs.Sheet.{current};
 ghost use Rattle.pairs.specs.Slots.{row_start};
 ghost use Rattle.pairs.specs.PairsWritten.{pairs_fitting, PairsWritten};
+ghost use Rattle.format.specs.Refusals.{returned};
 ghost use Rattle.arrays.specs.Links.{LinkArrays};
 ghost use Rattle.arrays.specs.Records.{network_at, SheetHeld};
 ghost use Rattle.pair_rows.specs.Writing.{PairsLeft};
@@ -14,9 +15,9 @@ ghost use Rattle.op_pairs.specs.Areas.{NodesCounted, TreeWritable, AreaLeft};
 use arrays::Layout;
 use by_node::{LISTS, index_links};
 use format::limits::{MOST_LINKS, MOST_NODES};
-use format::refusals;
+use format::refusals::Refusal;
 use pair_rows::write_pairs;
-use read_sheet::{Outcome, read_sheet};
+use read_sheet::read_sheet;
 use row_starts::row_start;
 use sheet_trees::rank_record;
 
@@ -43,12 +44,11 @@ fn write_tree(
         (tree_at (network_at s.now ends.now weights.now l) tree)
         area.old area.new }
 {
-    let nodes = l.nodes;
     let mut lists = [0u16; LISTS];
     let mut degrees = [0u64; MOST_NODES];
-    index_links(&mut lists, &mut degrees, nodes, l.links, ends, weights);
+    index_links(&mut lists, &mut degrees, l.nodes, l.links, ends, weights);
     let r = rank_record(s, l, tree, ends);
-    write_pairs(area, nodes, ends, weights, &lists, &degrees, r);
+    write_pairs(area, l.nodes, ends, weights, &lists, &degrees, r);
 }
 
 // The same, if the network has the tree and the area has room for all its pairs.
@@ -59,36 +59,34 @@ fn pair_network(
     ends: &[[u8; MOST_LINKS]; 2],
     weights: &[u32; MOST_LINKS],
     tree: usize,
-) -> u32
+) -> Result<(), Refusal>
     requires { SheetHeld current s.now ends.now weights.now l }
     ensures { AreaLeft tree (pairs_fitting tree area.old
         (network_at s.now ends.now weights.now l) [])
-        area.old area.new result }
+        area.old area.new (returned result) }
 {
     if tree >= l.trees {
-        return refusals::NO_TREE;
+        return Err(Refusal::NoTree);
     }
     if area.len() < pair_count(l.nodes) {
-        return refusals::SHORT_PAIRS;
+        return Err(Refusal::ShortPairs);
     }
     write_tree(area, s, l, ends, weights, tree);
-    0
+    Ok(())
 }
 
-// Reads a sheet, in work arrays that are lent, writes the weights of all pairs of a tree's links, each at its slot, and returns 0; or returns
-// the number of the first refusal and leaves the area as it was.
+// Reads a sheet, in work arrays that are lent, and writes the weights of all pairs of a tree's links, each at its slot; or answers the first
+// refusal and leaves the area as it was.
 pub fn pair_sheet(
     area: &mut [u64],
     ends: &mut [[u8; MOST_LINKS]; 2],
     weights: &mut [u32; MOST_LINKS],
     sheet: &[u8],
     tree: usize,
-) -> u32
+) -> Result<(), Refusal>
     requires { LinkArrays ends.old weights.old }
-    ensures { PairsWritten current sheet.now tree area.old area.new result }
+    ensures { PairsWritten current sheet.now tree area.old area.new (returned result) }
 {
-    match read_sheet(ends, weights, sheet) {
-        Outcome::Read(l) => pair_network(area, sheet, l, ends, weights, tree),
-        Outcome::Refused(n) => n,
-    }
+    let l = read_sheet(ends, weights, sheet)?;
+    pair_network(area, sheet, l, ends, weights, tree)
 }
