@@ -12,9 +12,9 @@ use lib.Dec.{ltb}
 use borrow.Author.Tests.{ltb-true, ltb-false, lt-ltb, le-ltb}
 use Rattle.print_text.specs.Decimal.{Text, digits, decimal, value_from, Decimal}
 
--- the last digit behind the digits `front`, if there are more digits than one
+-- the last digit behind the digits `ds`, if there are more digits than one
 abbrev with_last : ℕ → Text → Text
-with_last n front = cond (ltb n 10) [] front ++ (48 + n % 10) ∷ []
+with_last n ds = cond (ltb n 10) [] ds ++ (48 + n % 10) ∷ []
 
 with_last-same : (n : ℕ) (a b : Text) → (10 ≤ n → a ≡ b) → with_last n a ≡ with_last n b
 with_last-same n a b same = step (ltb n 10) refl
@@ -39,6 +39,15 @@ decimal-one n h = decimal_step n ∙ ap (λ (t : Bool). cond t [] (decimal (n / 
 
 pub decimal-more : (n : ℕ) → 10 ≤ n → decimal n ≡ decimal (n / 10) ++ (48 + n % 10) ∷ []
 decimal-more n h = decimal_step n ∙ ap (λ (t : Bool). cond t [] (decimal (n / 10)) ++ (48 + n % 10) ∷ []) (le-ltb n 10 h)
+
+pub one_digit : (n : ℕ) → n < 10 → length (decimal n) ≡ 1
+one_digit n h = ap (λ (ds : Text). length ds) (decimal-one n h)
+
+pub more_digits : (n : ℕ) → 10 ≤ n → length (decimal n) ≡ length (decimal (n / 10)) + 1
+more_digits n h = ap (λ (ds : Text). length ds) (decimal-more n h) ∙ length-append (decimal (n / 10)) ((48 + n % 10) ∷ [])
+
+-- how many digits there are in front of the last
+pub ruleset digits_in_front = (one_digit, more_digits)
 
 -- ---- what holds of a single digit, and of digits with one more behind them
 
@@ -68,6 +77,22 @@ decimal-most k n h = decimal-all Most (λ m l j b. omega arith) more n k h
     more m ds l before zero b = absurd (omega arith)
     more m ds l before (suc j) b = let p = pow-suc 10 (suc j) in
         let c = before j (omega (arith, p)) in omega (arith, length-append ds ((48 + m % 10) ∷ []))
+
+-- of a number of 8, 16, 32 or 64 bits
+pub decimal_u8 : (n : ℕ) → n < 256 → length (decimal n) ≤ 3
+decimal_u8 n h = decimal-most 2 n (omega arith)
+
+pub decimal_u16 : (n : ℕ) → n < 65536 → length (decimal n) ≤ 5
+decimal_u16 n h = decimal-most 4 n (omega arith)
+
+pub decimal_u32 : (n : ℕ) → n < 4294967296 → length (decimal n) ≤ 10
+decimal_u32 n h = decimal-most 9 n (omega arith)
+
+pub decimal_u64 : (n : ℕ) → n < 18446744073709551616 → length (decimal n) ≤ 20
+decimal_u64 n h = decimal-most 19 n (omega arith)
+
+-- what the check needs to prove that numbers fit
+pub ruleset few_digits = (decimal_u8, decimal_u16, decimal_u32, decimal_u64)
 
 -- ---- what they mean
 

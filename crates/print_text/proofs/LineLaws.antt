@@ -1,67 +1,75 @@
--- Text that is written behind other text is the two written as one, and writing keeps a buffer's length. So fields behind fields are all
--- of them, and a keyword, fields and a line feed are a line. Assumes nothing.
-use Prim.Native.Nat.{ℕ, suc, ◌+◌, ◌≤◌}
-use native.Mathlib.Nat.{zero-add}
+-- Text that is printed behind other text is the two printed as one. So fields behind fields are all of them, and a keyword, fields and a line
+-- feed are a line. Assumes nothing.
+use Prim.Native.Nat.{ℕ, ◌+◌, ◌≤◌}
 use native.Mathlib.Omega.{arith}
-use mathlib.Core.Path.{◌≡◌, refl, sym, ap, ap₂, ◌∙◌, subst}
+use mathlib.Core.Path.{◌≡◌, refl, sym, ap, ◌∙◌, subst}
 use mathlib.Core.List.{List, [], ◌∷◌, ◌++◌, append-nil, append_assoc}
-use lib.ListN.{length, length-append, set, take, drop}
-use lib.Seq.{sets, length-sets, sets-eq, take_at}
+use lib.ListN.{length, length-append, drop}
+use lib.Seq.{drop-drop}
 use Rattle.print_text.specs.Decimal.{Text}
-use Rattle.print_text.specs.Line.{space, line_feed, fields_text, line, Put, PutIn}
+use Rattle.print_text.specs.Line.{space, line_feed, fields_text, line, Printed, Put, PutIn}
 
-sets_append : (xs : Text) (at : ℕ) (a b : Text) → sets (sets xs at a) (at + length a) b ≡ sets xs at (a ++ b)
-sets_append xs at [] b = ap (λ (k : ℕ). sets xs k b) (omega arith)
-sets_append xs at (x ∷ a) b = ap (λ (k : ℕ). sets (sets (set xs at x) (suc at) a) k b) (omega arith) ∙ sets_append (set xs at x) (suc at) a b
-
-pub put-put : {old mid new a b : Text} {at p q : ℕ} → Put old at a mid p → Put mid p b new q → Put old at (a ++ b) new q
-put-put {old} {mid} {new} {a} {b} {at} {p} {q} h k = record {
-  end_is = k.end_is ∙ ap (λ (x : ℕ). x + length b) h.end_is ∙ sym (ap (λ (x : ℕ). at + x) (length-append a b) ∙ omega arith);
-  new_is = k.new_is ∙ ap (λ (l : Text). sets l p b) h.new_is ∙ ap (λ (x : ℕ). sets (sets old at a) x b) h.end_is ∙ sets_append old at a b;
+pub put-put : {old mid new : Printed} {a b : Text} → Put old a mid → Put mid b new → Put old (a ++ b) new
+put-put {old} {mid} {new} {a} {b} h k = record {
+  text_is = k.text_is ∙ ap (λ (t : Text). t ++ b) h.text_is ∙ append_assoc old.text a b;
+  room_is = omega (arith, h.room_is, k.room_is, length-append a b);
+  rest_is = k.rest_is ∙ ap (drop (length b)) h.rest_is ∙ drop-drop (length b) (length a) old.rest ∙ sym (ap (λ (n : ℕ). drop n old.rest) (length-append a b));
 }
 
-pub put-length : {old new text : Text} {at end : ℕ} → Put old at text new end → length new ≡ length old
-put-length {old} {new} {text} {at} {end} h = ap (λ (l : Text). length l) h.new_is ∙ length-sets old at text
+pub put-nothing : (old : Printed) → Put old [] old
+put-nothing old = record { text_is = sym (append-nil old.text); room_is = omega arith; rest_is = refl }
 
 fields_text-append : (fs gs : List Text) → fields_text (fs ++ gs) ≡ fields_text fs ++ fields_text gs
 unfolding fields_text
 fields_text-append [] gs = refl
 fields_text-append (f ∷ fs) gs = ap (λ (t : Text). space ∷ f ++ t) (fields_text-append fs gs) ∙ ap (λ (t : Text). space ∷ t) (sym (append_assoc f (fields_text fs) (fields_text gs)))
 
--- no field, one more, and more in one
+-- fields that are printed: none, one in front of others, and one behind others
 
-pub put-none : (old : Text) (at : ℕ) → Put old at (fields_text []) old at
-unfolding fields_text
-put-none old at = record { end_is = omega arith; new_is = refl }
+pub record PutFields (old : Printed) (fs : List Text) (new : Printed) : Type 0 where
+  pub put : Put old (fields_text fs) new
 
-pub put-more : {old mid new : Text} {at p q : ℕ} (fs : List Text) (f : Text) → Put old at (fields_text fs) mid p → Put mid p (space ∷ f) new q → Put old at (fields_text (fs ++ f ∷ [])) new q
+pub put-none : (old : Printed) → PutFields old [] old
 unfolding fields_text
-put-more {old} {mid} {new} {at} {p} {q} fs f h k =
-    subst (λ (t : Text). Put old at t new q)
+put-none old = record { put = put-nothing old }
+
+pub put-first : {old mid new : Printed} {f : Text} {fs : List Text} → Put old (space ∷ f) mid → PutFields mid fs new → PutFields old (f ∷ fs) new
+unfolding fields_text
+put-first h k = record { put = put-put h k.put }
+
+pub put-more : {old mid new : Printed} (fs : List Text) {f : Text} {few most : ℕ} → PutIn few old (fields_text fs) mid → Put mid (space ∷ f) new → few + 1 + length f ≤ most → PutIn most old (fields_text (fs ++ f ∷ [])) new
+unfolding fields_text
+put-more {old} {mid} {new} fs {f} {few} {most} h k e =
+    subst (λ (t : Text). PutIn most old t new)
     (sym (fields_text-append fs (f ∷ []) ∙ ap (λ (t : Text). fields_text fs ++ space ∷ t) (append-nil f)))
-    (put-put h k)
+    (record { put = put-put h.put k; few = omega (arith, h.few, length-append (fields_text fs) (space ∷ f)) })
 
-pub put-fields : {old mid new : Text} {at p q : ℕ} (fs gs : List Text) →
-    Put old at (fields_text fs) mid p → Put mid p (fields_text gs) new q → Put old at (fields_text (fs ++ gs)) new q
-put-fields {old} {new = new} {at} {q = q} fs gs h k =
-    subst (λ (t : Text). Put old at t new q) (sym (fields_text-append fs gs)) (put-put h k)
+-- how many bytes the fields take
+abbrev pub fields_length : List Text → ℕ
+fields_length [] = 0
+fields_length (f ∷ fs) = 1 + length f + fields_length fs
 
-pub put-line : {old named filled new : Text} {at p q r : ℕ} (keyword : Text) (fs : List Text) →
-    Put old at keyword named p → Put named p (fields_text fs) filled q → Put filled q (line_feed ∷ []) new r → Put old at (line keyword fs) new r
+pub fields_text-length : (fs : List Text) → length (fields_text fs) ≡ fields_length fs
+unfolding fields_text
+fields_text-length [] = refl
+fields_text-length (f ∷ fs) = omega (arith, length-append f (fields_text fs), fields_text-length fs)
+
+line-length : (keyword : Text) (fs : List Text) → length (line keyword fs) ≡ length keyword + fields_length fs + 1
 unfolding line
-put-line keyword fs h k l = put-put (put-put h k) l
+line-length keyword fs =
+    length-append (keyword ++ fields_text fs) (line_feed ∷ []) ∙ omega (arith, length-append keyword (fields_text fs), fields_text-length fs)
+
+pub put-line : {old named filled new : Printed} {keyword : Text} {fs : List Text} {most : ℕ} → Put old keyword named → PutFields named fs filled → Put filled (line_feed ∷ []) new → length keyword + fields_length fs + 1 ≤ most → PutIn most old (line keyword fs) new
+unfolding line
+put-line {keyword = keyword} {fs} h k l few = record { put = put-put (put-put h k.put) l; few = omega (arith, line-length keyword fs) }
+
+-- a text and one behind it
+pub put_both : {old mid new : Printed} {a b : Text} {few more most : ℕ} → PutIn few old a mid → PutIn more mid b new → few + more ≤ most → PutIn most old (a ++ b) new
+put_both {a = a} {b} h k e = record { put = put-put h.put k.put; few = omega (arith, h.few, k.few, length-append a b) }
 
 -- the same text by another name, with a higher bound
-pub put_in : {old new text out : Text} {at end few most : ℕ} → PutIn few old at text new end → text ≡ out → few ≤ most → PutIn most old at out new end
-put_in {old} {new} {at = at} {end} h e m = record { put = subst (λ (t : Text). Put old at t new end) e h.put; few = omega (arith, h.few) }
-
--- text put to the front of a buffer that has room for it is the front
-pub put_front : {old new text : Text} {end most : ℕ} → PutIn most old 0 text new end → most ≤ length old → take end new ≡ text
-put_front {old} {new} {text} {end} {most} h m =
-    let e : end ≡ length text = h.put.end_is ∙ zero-add (length text) in
-    let b = h.few in
-    ap₂ take e (h.put.new_is ∙ sets-eq text old 0 (omega arith)) ∙ take_at text (drop (0 + length text) old) (length text) refl
-
--- and it reaches to where the text ends
-pub front_length : {old new text : Text} {end most : ℕ} → PutIn most old 0 text new end → most ≤ length old → end ≡ length (take end new)
-front_length {text = text} h m = h.put.end_is ∙ zero-add (length text) ∙ sym (ap (λ (t : Text). length t) (put_front h m))
+pub put_in : {old new : Printed} {text out : Text} {few most : ℕ} → PutIn few old text new → text ≡ out → few ≤ most → PutIn most old out new
+put_in {old} {new} h e m = record {
+  put = subst (λ (t : Text). Put old t new) e h.put;
+  few = let f = h.few in omega (arith, ap (λ (t : Text). length t) e);
+}
