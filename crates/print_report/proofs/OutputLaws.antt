@@ -21,9 +21,9 @@ use Rattle.sheet.proofs.Acceptance.{decode-zero}
 use Rattle.monitor.specs.Entry.{reading, Reported}
 use Rattle.monitor.proofs.EntryLaws.{reading-is}
 use Rattle.print_text.specs.Decimal.{Text, decimal}
-use Rattle.print_text.specs.Line.{line, refused_line, Put}
-use Rattle.print_text.proofs.LineLaws.{put-put}
-use Rattle.print_report.specs.Output.{answer_word, side_word, answer_fields, side_fields, answer_lines, output}
+use Rattle.print_text.specs.Line.{line, refused_line, Printed, PutIn}
+use Rattle.print_text.proofs.LineLaws.{put_both}
+use Rattle.print_report.specs.Output.{answer_word, side_word, answer_fields, side_fields, answer_lines, output, most_output}
 
 -- ---- the two lines
 
@@ -32,16 +32,16 @@ side_fields-select : (s : Side) (f : ℕ → Bool) → ((k : ℕ) → k < 256 �
 unfolding side_fields
 side_fields-select s f h = ap (map decimal) (select_congr 256 (flag s) f h)
 
-pub answer_lines-put : {old mid new : Text} {p q : ℕ} (f : Format) (fs : List ℕ) (side report : Bytes) → fs ≡ fields (report_widths f) report
-    → Put old 0 (line answer_word (answer_fields (answer_of fs (side_read 256 side)))) mid p
-    → Put mid p (line side_word (map decimal (select 256 (map_bit side)))) new q
-    → Put old 0 (answer_lines (answer_read f 256 side report)) new q
+pub answer_lines-put : {old mid new : Printed} (f : Format) (fs : List ℕ) (side report : Bytes) → fs ≡ fields (report_widths f) report
+    → PutIn 75 old (line answer_word (answer_fields (answer_of fs (side_read 256 side)))) mid
+    → PutIn 919 mid (line side_word (map decimal (select 256 (map_bit side)))) new
+    → PutIn most_output old (answer_lines (answer_read f 256 side report)) new
 unfolding answer_lines answer_read side_read
-answer_lines-put {old} {mid} {new} {p} {q} f fs side report e h k =
-    subst (λ (t : Text). Put old 0 t new q)
+answer_lines-put {old} {mid} {new} f fs side report e h k =
+    subst (λ (t : Text). PutIn most_output old t new)
     (ap₂ (λ (gs : List ℕ) (ns : List Text). line answer_word (answer_fields (answer_of gs (side_read 256 side))) ++ line side_word ns) e
     (sym (side_fields-select (side_read 256 side) (map_bit side) (table_at false 256 (map_bit side)))))
-    (put-put h k)
+    (put_both h k (omega arith))
 
 -- read from the areas with a flag for each of the 256 bits, an answer prints as it does with a flag for each node
 answer_lines-back : (f : Format) (net : Network) (side report : Bytes) → answer_read f net.nodes (side_after f net side) (report_after f net report) ≡ answer f.rules net

@@ -16,7 +16,7 @@ use format::limits::{MOST_NODES, REPORT_LENGTH, SIDE_LENGTH};
 use format::maps::bit_set;
 use format::numbers::{eight, two};
 use monitor::report::wcut_report;
-use print_text::{put_byte, put_field, put_word, refused_line};
+use print_text::{Printer, print_in_room, refused_line};
 use write_areas::{NO_SECOND, Report};
 
 // No output has more bytes: line 1 takes 75 with each field at its largest, line 2 with all 256 nodes 919.
@@ -37,105 +37,85 @@ fn read_report(area: &[u8; REPORT_LENGTH]) -> Report
     }
 }
 
-// Writes the fields that say how light the cut is.
-fn put_bounds(out: &mut [u8], at: usize, verdict: u8, weight: u64, floor: u64) -> usize
-    requires { at + 46 ≤ length out.old }
-    ensures { PutIn 46 out.old at
-        (fields_text (decimal verdict ∷ decimal weight ∷ decimal floor ∷ [])) out.new result }
-{
-    let mut end = put_field(out, at, verdict as u64);
-    end = put_field(out, end, weight);
-    put_field(out, end, floor)
-}
-
-// Writes the field of the second link.
-fn put_second(out: &mut [u8], at: usize, second: u16) -> usize
-    requires { at + 6 ≤ length out.old }
+// Prints the field of the second link.
+#[tactic(auto, using(print_text::proofs::DecimalLaws::few_digits))]
+fn put_second(printer: &mut Printer, second: u16)
+    requires { 6 ≤ length printer.old.rest }
     ensures { (e : ℕ)
-        → PutIn 6 out.old at (space ∷ second_field (handle_of e second)) out.new result }
+        → PutIn 6 printer.old (space ∷ second_field (handle_of e second)) printer.new }
 {
     if second == NO_SECOND {
-        return put_word(out, at, b" -");
+        printer.put_word(b" -");
+    } else {
+        printer.put_field(second as u64);
     }
-    put_field(out, at, second as u64)
 }
 
-// Writes the fields that name the cut.
-fn put_cut(out: &mut [u8], at: usize, tree: u8, first: u16, second: u16, count: u16) -> usize
-    requires { at + 22 ≤ length out.old }
-    ensures { PutIn 22 out.old at
-        (fields_text (decimal tree ∷ decimal first ∷ second_field (handle_of first second) ∷ decimal count ∷ []))
-        out.new result }
+// Prints the line of a report.
+#[tactic(auto, using(print_text::proofs::DecimalLaws::few_digits))]
+fn answer_line(printer: &mut Printer, r: Report)
+    requires { 75 ≤ length printer.old.rest }
+    ensures { PutIn 75 printer.old
+        (line answer_word (answer_fields (answer_of (values_of r) []))) printer.new }
 {
-    let mut end = put_field(out, at, tree as u64);
-    end = put_field(out, end, first as u64);
-    end = put_second(out, end, second);
-    put_field(out, end, count as u64)
+    printer.put_word(b"answer");
+    printer.put_field(r.verdict as u64);
+    printer.put_field(r.weight);
+    printer.put_field(r.floor);
+    printer.put_field(r.tree as u64);
+    printer.put_field(r.first as u64);
+    put_second(printer, r.second);
+    printer.put_field(r.count as u64);
+    printer.put_byte(b'\n');
 }
 
-// Writes the line of a report.
-fn answer_line(out: &mut [u8], r: Report) -> usize
-    requires { 75 ≤ length out.old }
-    ensures { PutIn 75 out.old 0
-        (line answer_word (answer_fields (answer_of (values_of r) []))) out.new result }
+// Prints the numbers of the nodes in a side.
+fn put_nodes(printer: &mut Printer, side: &[u8; SIDE_LENGTH])
+    requires { 914 ≤ length printer.old.rest }
+    ensures { PutIn 914 printer.old
+        (fields_text (map decimal (select most_nodes (map_bit side.now)))) printer.new }
 {
-    let mut end = put_word(out, 0, b"answer");
-    end = put_bounds(out, end, r.verdict, r.weight, r.floor);
-    end = put_cut(out, end, r.tree, r.first, r.second, r.count);
-    put_byte(out, end, b'\n')
-}
-
-// Writes the numbers of the nodes in a side.
-fn put_nodes(out: &mut [u8], at: usize, side: &[u8; SIDE_LENGTH]) -> usize
-    requires { at + 914 ≤ length out.old }
-    ensures { PutIn 914 out.old at
-        (fields_text (map decimal (select most_nodes (map_bit side.now)))) out.new result }
-{
-    let mut end = at;
-    let mut x = 0;
-    while x < MOST_NODES {
+    for x in 0..MOST_NODES {
         if bit_set(side, x) {
-            end = put_field(out, end, x as u64);
+            printer.put_field(x as u64);
         }
-        x += 1;
     }
-    end
 }
 
-// Writes the line of a side.
-fn side_line(out: &mut [u8], at: usize, side: &[u8; SIDE_LENGTH]) -> usize
-    requires { at + 919 ≤ length out.old }
-    ensures { PutIn 919 out.old at
-        (line side_word (map decimal (select most_nodes (map_bit side.now)))) out.new result }
+// Prints the line of a side.
+fn side_line(printer: &mut Printer, side: &[u8; SIDE_LENGTH])
+    requires { 919 ≤ length printer.old.rest }
+    ensures { PutIn 919 printer.old
+        (line side_word (map decimal (select most_nodes (map_bit side.now)))) printer.new }
 {
-    let mut end = put_word(out, at, b"side");
-    end = put_nodes(out, end, side);
-    put_byte(out, end, b'\n')
+    printer.put_word(b"side");
+    put_nodes(printer, side);
+    printer.put_byte(b'\n');
 }
 
-// Writes both lines of an answer that stands in the two areas.
-fn answer_lines(out: &mut [u8], side: &[u8; SIDE_LENGTH], report: &[u8; REPORT_LENGTH]) -> usize
-    requires { most_output ≤ length out.old }
-    ensures { PutIn most_output out.old 0
-        (answer_lines (answer_read current most_nodes side.now report.now)) out.new result }
+// Prints both lines of an answer that stands in the two areas.
+fn answer_lines(printer: &mut Printer, side: &[u8; SIDE_LENGTH], report: &[u8; REPORT_LENGTH])
+    requires { most_output ≤ length printer.old.rest }
+    ensures { PutIn most_output printer.old
+        (answer_lines (answer_read current most_nodes side.now report.now)) printer.new }
 {
-    let end = answer_line(out, read_report(report));
-    side_line(out, end, side)
+    answer_line(printer, read_report(report));
+    side_line(printer, side);
 }
 
-// Writes what the report program prints for a sheet to the front of the buffer, and answers how many bytes that is.
-fn put_output(out: &mut [u8], sheet: &[u8]) -> usize
-    requires { most_output ≤ length out.old }
-    ensures { PutIn most_output out.old 0
-        (output current (decode current sheet.now)) out.new result }
+// Prints what the report program prints for a sheet.
+fn put_output(printer: &mut Printer, sheet: &[u8])
+    requires { most_output ≤ length printer.old.rest }
+    ensures { PutIn most_output printer.old
+        (output current (decode current sheet.now)) printer.new }
 {
     let mut side = [0u8; SIDE_LENGTH];
     let mut report = [0u8; REPORT_LENGTH];
     let number = wcut_report(sheet, &mut side, &mut report);
     if number == 0 {
-        answer_lines(out, &side, &report)
+        answer_lines(printer, &side, &report);
     } else {
-        refused_line(out, number)
+        refused_line(printer, number);
     }
 }
 
@@ -143,9 +123,5 @@ fn put_output(out: &mut [u8], sheet: &[u8]) -> usize
 pub fn report_lines<'a>(out: &'a mut [u8], sheet: &[u8]) -> &'a mut [u8]
     ensures { result.now ≡ in_room most_output out.old (output current (decode current sheet.now)) }
 {
-    if out.len() < MOST_OUTPUT {
-        return &mut out[..0];
-    }
-    let end = put_output(out, sheet);
-    &mut out[..end]
+    print_in_room(out, MOST_OUTPUT, |printer| put_output(printer, sheet))
 }

@@ -1,21 +1,27 @@
--- `print_report::answer_line` meets its contract: the keyword, the fields in two parts and the line feed are a line. Assumes nothing.
-use mathlib.Core.List.{[], ◌∷◌, ◌++◌}
+-- What is left to prove of `answer_line`: the keyword, seven fields and the line feed are a line. Assumes nothing.
 use native.Mathlib.Omega.{arith}
 use lib.Dec.{eqb}
-use Rattle.sheet.specs.Areas.{no_second, handle_of}
-use Rattle.print_text.specs.Decimal.{decimal}
-use Rattle.print_text.proofs.LineLaws.{put-fields, put-line}
-use Rattle.print_report.specs.Output.{answer_word, second_field}
+use Rattle.sheet.specs.Areas.{no_second}
 use Rattle.sheet.proofs.AreaLaws.{first_link-cond}
+use Rattle.print_text.proofs.LineLaws.{put-none, put-first, put-line}
+use Rattle.print_text.proofs.DecimalLaws.{few_digits}
 use Rattle.print_report.proofs.answer_line.Goals as goal
+
+pub put_field-requires-6 : goal.put_field-requires-6
+put_field-requires-6 c = grind (arith, few_digits, c.put_second.ensures 0)
+
+pub put_byte-requires : goal.put_byte-requires
+put_byte-requires c = grind (arith, few_digits, c.put_second.ensures 0)
 
 pub returns : goal.returns
 returns c =
     let r = c.args.r in
-    let fs = decimal r.verdict ∷ decimal r.weight ∷ decimal r.floor ∷ [] in
-    let gs = decimal r.tree ∷ decimal r.first ∷ second_field (handle_of r.first r.second) ∷ decimal r.count ∷ [] in
-    let all = put-fields fs gs c.put_bounds-end.ensures.put c.put_cut-end.ensures.put in
-    record {
-      put = rw (first_link-cond (eqb r.second no_second) r.first r.second) (put-line answer_word (fs ++ gs) c.put_word-end.ensures all c.put_byte.ensures);
-      few = omega arith;
-    }
+    let second = c.put_second.ensures r.first in
+    rw (first_link-cond (eqb r.second no_second) r.first r.second) (put-line c.put_word.ensures (
+    put-first c.put_field.ensures (
+    put-first c.put_field-2.ensures (
+    put-first c.put_field-3.ensures (
+    put-first c.put_field-4.ensures (
+    put-first c.put_field-5.ensures (
+    put-first second.put (
+    put-first c.put_field-6.ensures (put-none _)))))))) c.put_byte.ensures (grind (arith, few_digits, second.few)))

@@ -1,5 +1,4 @@
 -- `print_report::answer_lines` meets its contract: the line of the report, and behind it the line of the side. Assumes nothing.
-use native.Mathlib.Omega.{arith}
 use Rattle.sheet.specs.Sheet.{current}
 use Rattle.print_report.proofs.OutputLaws.{answer_lines-put}
 use Rattle.print_report.proofs.answer_lines.Goals as goal
@@ -7,8 +6,4 @@ use Rattle.print_report.proofs.answer_lines.Goals as goal
 pub returns : goal.returns
 returns c =
     let a = c.args in
-    record {
-      put = answer_lines-put current _ a.side.now a.report.now c.read_report.ensures
-          c.answer_line-end.ensures.put c.side_line.ensures.put;
-      few = omega (arith, c.answer_line-end.ensures.few, c.side_line.ensures.few);
-    }
+    answer_lines-put current _ a.side.now a.report.now c.read_report.ensures c.answer_line.ensures c.side_line.ensures

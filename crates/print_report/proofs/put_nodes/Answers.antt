@@ -1,50 +1,34 @@
--- What is left to prove of `put_nodes`.
-use Prim.Native.Nat.{ℕ, ◌+◌, ◌≤◌, ◌<◌}
-use mathlib.Core.Path.{◌≡◌, sym, ◌∙◌}
-use mathlib.Core.Bool.{true, false}
-use mathlib.Core.List.{◌∷◌}
+-- What is left to prove of `put_nodes`: a node whose bit is set is one field more, any other none.
+use Prim.Native.Nat.{ℕ}
+use mathlib.Core.Path.{sym, ◌∙◌}
+use mathlib.Core.Bool.{Bool}
 use native.Mathlib.Omega.{arith}
-use lib.ListN.{length}
 use Rattle.cuts.specs.Sums.{select}
-use Rattle.sheet.specs.Bytes.{Bytes, map_bit}
-use Rattle.print_text.specs.Decimal.{Text, decimal}
-use Rattle.print_text.specs.Line.{space, Put}
-use Rattle.print_text.proofs.LineLaws.{put-none, put-more, put-length}
+use Rattle.sheet.specs.Bytes.{map_bit}
+use Rattle.print_text.specs.Line.{fields_text}
+use Rattle.print_text.proofs.LineLaws.{put-nothing, put-more}
 use Rattle.print_report.proofs.NodeLaws.{node_fields, node_fields-set, node_fields-unset, room-step}
-use Rattle.print_report.proofs.put_nodes.Invariants.{Nodes}
 use Rattle.print_report.proofs.put_nodes.Goals as goal
 use Rattle.print_report.proofs.put_nodes.Goals.{else-bit_set, then-bit_set}
 
--- one node more
-module _ {old : Text} {at : ℕ} {side : Bytes} {out : Text} {end x : ℕ} (n : Nodes old at side out end x) (more : x < 256) where
-  field_fits : end + 1 + length (decimal x) ≤ length out
-  field_fits = omega (arith, room-step x more, put-length n.put)
-
-  set_more : {new : Text} {q : ℕ} → map_bit side x ≡ true → Put out end (space ∷ decimal x) new q → Nodes old at side new q (x + 1)
-  set_more h k = record {
-    put = rw (node_fields-set x (map_bit side) h) (put-more (node_fields x (map_bit side)) (decimal x) n.put k);
-    few = omega (arith, room-step x more, k.end_is);
-    within = omega arith;
-    fits = n.fits;
-  }
-
-  unset-more : map_bit side x ≡ false → Nodes old at side out end (x + 1)
-  unset-more h = record {
-    put = rw (node_fields-unset x (map_bit side) h) n.put;
-    few = omega arith;
-    within = omega arith;
-    fits = n.fits;
-  }
-
 pub loop-x-init : goal.loop-x-init
-unfolding select
-loop-x-init c = record { put = put-none _ _; few = omega arith; within = omega arith; fits = c.requires }
+unfolding select fields_text
+loop-x-init c = record { put = put-nothing _; few = omega arith }
 
-pub put_field-end-requires : goal.put_field-end-requires
-put_field-end-requires c = field_fits c.loop-x.invariant c.loop-x-test.true
+pub put_field-requires : goal.put_field-requires
+put_field-requires c = omega (arith, room-step c.loop-x.x c.loop-x-test.true, c.loop-x.invariant.few)
 
 pub loop-x-preserved : goal.loop-x-preserved
 loop-x-preserved c =
-    let l = c.loop-x in
-    let more = c.loop-x-test.true in
-    elim c.if-bit_set.branch [ then-bit_set w ↦ rw (w.out-is, w.end-is) (set_more l.invariant more (sym c.bit_set.ensures ∙ w.if-bit_set.true) w.put_field-end.ensures) | else-bit_set w ↦ rw (w.out-is, w.end-is) (unset-more l.invariant more (sym c.bit_set.ensures ∙ w.if-bit_set.false)) ]
+    let x : ℕ = c.loop-x.x in
+    let f : ℕ → Bool = map_bit c.args.side.now in
+    let before = c.loop-x.invariant in
+    let step = room-step x c.loop-x-test.true in
+    elim c.if-bit_set.branch [
+      | then-bit_set w ↦
+          rw (w.printer-is, node_fields-set x f (sym c.bit_set.ensures ∙ w.if-bit_set.true))
+          (put-more (node_fields x f) before w.put_field.ensures (omega (arith, step)))
+      | else-bit_set w ↦
+          rw (w.printer-is, node_fields-unset x f (sym c.bit_set.ensures ∙ w.if-bit_set.false))
+          (record { put = before.put; few = omega (arith, before.few) })
+    ]
