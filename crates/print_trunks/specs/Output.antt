@@ -1,13 +1,11 @@
 -- What the program `trunks` prints (request F-9: "prints each link's number and trunk number, a line a link, or the refusal as before").
 -- Assumes nothing.
---   link_line k t        the line of link k with the trunk number t
---   lines_from k ts      the lines of the links from k on, whose trunk numbers are ts
---   output r             what is printed where r is what the crew's reader reads
---   most_line            no line has more bytes: four digits, a space, five digits and the line feed
---   most_output          no output has more bytes: a line for each link
---   LineRoom out k l     there is room for a line from position k on, and l is the number of a link
---   LinesRoom out ts n   there is room for every output, and ts has n trunk numbers, no more than there may be links
-use Rattle.std.specs.Prelude.{ℕ, suc, ◌+◌, ◌*◌, ◌≤◌, ◌<◌, List, [], ◌∷◌, ◌++◌, length}
+--   link_line k t     the line of link k with the trunk number t
+--   lines_from k ts   the lines of the links from k on, whose trunk numbers are ts
+--   output r          what is printed where r is what the crew's reader reads
+--   most_line         no line has more bytes: four digits, a space, five digits and the line feed
+--   most_output       no output has more bytes: a line for each link
+use Rattle.std.specs.Prelude.{ℕ, suc, ◌*◌, List, [], ◌∷◌, ◌++◌}
 use Rattle.cuts.specs.Limits.{most_links}
 use Rattle.sheet.specs.Reading.{Reading, accepted, refused}
 use Rattle.print_text.specs.Decimal.{Text, decimal}
@@ -31,12 +29,3 @@ most_line = 11
 
 abbrev pub most_output : ℕ
 most_output = most_links * most_line
-
-pub record LineRoom (out : Text) (at link : ℕ) : Type 0 where
-  pub room : at + most_line ≤ length out
-  pub numbered : link < most_links
-
-pub record LinesRoom (out : Text) (numbers : List ℕ) (count : ℕ) : Type 0 where
-  pub room : most_output ≤ length out
-  pub few : count ≤ most_links
-  pub there : count ≤ length numbers

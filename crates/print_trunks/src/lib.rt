@@ -1,17 +1,17 @@
 // What the program `trunks` prints for a sheet, as bytes.
 #![tactic(auto)]
 
-ghost use Rattle.std.specs.Prelude.{◌≡◌, ◌≤◌, length, take};
+ghost use Rattle.std.specs.Prelude.{◌≡◌, ◌≤◌, ◌<◌, length};
 ghost use Rattle.cuts.specs.Limits.{most_links};
 ghost use Rattle.sheet.specs.Sheet.{current};
 ghost use Rattle.sheet.specs.Trunks.{trunks};
 ghost use Rattle.print_text.specs.Line.{PutIn, in_room};
-ghost use Rattle.print_trunks.specs.Output.{link_line, lines_from, output, most_line, most_output, LineRoom, LinesRoom};
+ghost use Rattle.print_trunks.specs.Output.{link_line, lines_from, output, most_line, most_output};
 
 use format::limits::MOST_LINKS;
 use format::numbers::two;
 use op_trunks::read_trunks;
-use print_text::{put_byte, put_decimal, put_field, refused_line};
+use print_text::{Printer, print_in_room, refused_line};
 
 // No line has more bytes: four digits, a space, five digits and the line feed.
 const MOST_LINE: usize = 11;
@@ -19,43 +19,40 @@ const MOST_LINE: usize = 11;
 // No output has more bytes: a line for each link.
 pub const MOST_OUTPUT: usize = MOST_LINKS * MOST_LINE;
 
-// Writes the line of a link.
-fn link_line(out: &mut [u8], at: usize, link: usize, trunk: u16) -> usize
-    requires { LineRoom out.old at link }
-    ensures { PutIn most_line out.old at (link_line link trunk) out.new result }
+// Prints the line of a link.
+#[tactic(auto, using(print_text::proofs::DecimalLaws::few_digits))]
+fn link_line(printer: &mut Printer, link: usize, trunk: u16)
+    requires room { most_line ≤ length printer.old.rest }
+    requires numbered { link < most_links }
+    ensures { PutIn most_line printer.old (link_line link trunk) printer.new }
 {
-    let mut end = put_decimal(out, at, link as u64);
-    end = put_field(out, end, trunk as u64);
-    put_byte(out, end, b'\n')
+    printer.put_decimal(link as u64);
+    printer.put_field(trunk as u64);
+    printer.put_byte(b'\n');
 }
 
-// Writes the lines of the first `count` links.
-fn link_lines(out: &mut [u8], numbers: &[u16], count: usize) -> usize
-    requires { LinesRoom out.old numbers.now count }
-    ensures { PutIn most_output out.old 0
-        (lines_from 0 (take count numbers.now)) out.new result }
+// Prints the lines of the links that have these trunk numbers.
+fn link_lines(printer: &mut Printer, numbers: &[u16])
+    requires room { most_output ≤ length printer.old.rest }
+    requires few { length numbers.now ≤ most_links }
+    ensures { PutIn most_output printer.old (lines_from 0 numbers.now) printer.new }
 {
-    let mut end = 0;
-    let mut k = 0;
-    while k < count {
-        end = link_line(out, end, k, numbers[k]);
-        k += 1;
+    for (link, trunk) in numbers.iter().enumerate() {
+        link_line(printer, link, *trunk);
     }
-    end
 }
 
-// Writes what the program prints for a sheet to the front of the buffer, and answers how many bytes that is.
-fn put_output(out: &mut [u8], sheet: &[u8]) -> usize
-    requires { most_output ≤ length out.old }
-    ensures { PutIn most_output out.old 0
-        (output (trunks current sheet.now)) out.new result }
+// Prints what the program prints for a sheet.
+fn put_output(printer: &mut Printer, sheet: &[u8])
+    requires { most_output ≤ length printer.old.rest }
+    ensures { PutIn most_output printer.old (output (trunks current sheet.now)) printer.new }
 {
     let mut numbers = [0u16; MOST_LINKS];
     let number = read_trunks(&mut numbers, sheet);
     if number == 0 {
-        link_lines(out, &numbers, two(sheet, 2))
+        link_lines(printer, &numbers[..two(sheet, 2)]);
     } else {
-        refused_line(out, number)
+        refused_line(printer, number);
     }
 }
 
@@ -63,9 +60,5 @@ fn put_output(out: &mut [u8], sheet: &[u8]) -> usize
 pub fn trunk_lines<'a>(out: &'a mut [u8], sheet: &[u8]) -> &'a mut [u8]
     ensures { result.now ≡ in_room most_output out.old (output (trunks current sheet.now)) }
 {
-    if out.len() < MOST_OUTPUT {
-        return &mut out[..0];
-    }
-    let end = put_output(out, sheet);
-    &mut out[..end]
+    print_in_room(out, MOST_OUTPUT, |printer| put_output(printer, sheet))
 }

@@ -1,15 +1,15 @@
 -- What is left to prove of `link_lines`.
-use mathlib.Core.Path.{refl}
 use native.Mathlib.Omega.{arith}
 use Rattle.print_trunks.specs.Output.{lines_from}
-use Rattle.print_trunks.proofs.LineLaws.{one_more}
+use Rattle.print_text.proofs.LineLaws.{put-nothing, put_both}
+use Rattle.print_trunks.proofs.LineLaws.{lines_more}
 use Rattle.print_trunks.proofs.link_lines.Goals as goal
 
-pub loop-k-init : goal.loop-k-init
+pub loop-link-init : goal.loop-link-init
 unfolding lines_from
-loop-k-init c =
-    record { put = record { end_is = omega arith; new_is = refl }; few = omega arith; within = omega arith; there = c.requires.there; limit = c.requires.few; room = c.requires.room }
+loop-link-init c = record { put = put-nothing _; few = omega arith }
 
-pub loop-k-preserved : goal.loop-k-preserved
-loop-k-preserved c =
-    one_more c.loop-k.invariant c.loop-k-test.true c.link_line-end.ensures.put c.link_line-end.ensures.few
+pub loop-link-preserved : goal.loop-link-preserved
+loop-link-preserved c =
+    let l = c.loop-link in
+    rw (lines_more c.args.numbers.now l.link c.loop-link-test.true) (put_both l.invariant c.link_line.ensures (omega arith))

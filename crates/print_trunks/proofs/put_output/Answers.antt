@@ -1,31 +1,40 @@
 -- `print_trunks::put_output` meets its contract: where the crew's reader returns 0 the area has the trunk numbers of the links that the
 -- header counts, and where it returns another number that is the sheet's refusal. Assumes nothing.
-use mathlib.Core.Path.{◌≡◌, refl}
+use Prim.Native.Nat.{◌≤◌}
 use native.Mathlib.Omega.{arith}
-use lib.ListN.{length}
-use Rattle.print_text.proofs.LineLaws.{put_in}
+use mathlib.Core.Path.{◌≡◌, sym}
+use lib.ListN.{length, take}
+use lib.Seq.{length-take-le}
 use Rattle.cuts.specs.Limits.{most_links}
 use Rattle.sheet.specs.Sheet.{current}
-use Rattle.op_trunks.proofs.NumberLaws.{numbers_kept}
+use Rattle.print_text.proofs.LineLaws.{put_in}
 use Rattle.print_trunks.proofs.OutputLaws.{accepted-output}
 use Rattle.print_trunks.proofs.put_output.Goals as goal
-use Rattle.print_trunks.proofs.put_output.Goals.{After-read_trunks-number}
+use Rattle.print_trunks.proofs.put_output.Goals.{After-two}
 
-numbers-length : (c : After-read_trunks-number) → length c.read_trunks-number.new.numbers ≡ most_links
-numbers-length c = numbers_kept current c.args.sheet.now c.read_trunks-number.ensures refl
+-- the links that the header counts are no more than the area has numbers
+module _ (c : After-two) where
+  few_links : c.two.result ≤ most_links
+  few_links =
+      omega (arith, (accepted-output current c.args.sheet.now c.read_trunks-number.ensures c.if-number-eq0.true).1, c.two.ensures.same)
+
+  there : length (take c.two.result c.read_trunks-number.new.numbers) ≡ c.two.result
+  there = length-take-le c.two.result c.read_trunks-number.new.numbers (omega (arith, few_links, c.read_trunks-number.array_long))
 
 pub two-requires : goal.two-requires
 two-requires c =
     omega (arith, (accepted-output current c.args.sheet.now c.read_trunks-number.ensures c.if-number-eq0.true).0)
 
+pub slice_bounds-numbers-end : goal.slice_bounds-numbers-end
+slice_bounds-numbers-end c = omega (arith, few_links (goal.at.slice_bounds-numbers-end c).After-two)
+
+pub slice_bounds-link_lines-end : goal.slice_bounds-link_lines-end
+slice_bounds-link_lines-end c = sym (there (goal.at.slice_bounds-link_lines-end c).After-two)
+
 pub link_lines-requires : goal.link_lines-requires
 link_lines-requires c =
-    let few = (accepted-output current c.args.sheet.now c.read_trunks-number.ensures c.if-number-eq0.true).1 in
-    record {
-      room = c.requires;
-      few = omega (arith, few, c.two.ensures.same);
-      there = omega (arith, few, c.two.ensures.same, numbers-length (goal.at.link_lines-requires c).After-read_trunks-number);
-    }
+    let at_two = (goal.at.link_lines-requires c).After-two in
+    record { room = c.requires; few = omega (arith, there at_two, few_links at_two) }
 
 pub returns-then-number-eq0 : goal.returns-then-number-eq0
 returns-then-number-eq0 c =
