@@ -1,12 +1,11 @@
 -- What the program `rows` prints (document 02, F-12: "a small program prints that table from the formula, one number a line").
 -- Assumes nothing.
---   row_line x         the line of a number
---   row_lines xs       the numbers xs, a line each
---   output             what is printed: where the rows of the ranks 0 to 254 start
---   most_line          no line has more bytes: five digits and the line feed
---   most_output        no output has more bytes: a line for each rank
---   LineRoom out k r   there is room for a line from position k on, and r is a rank
-use Rattle.std.specs.Prelude.{ℕ, ◌+◌, ◌*◌, ◌≤◌, ◌<◌, List, [], ◌∷◌, ◌++◌, length}
+--   row_line x     the line of a number
+--   row_lines xs   the numbers xs, a line each
+--   output         what is printed: where the rows of the ranks 0 to 254 start
+--   most_line      no line has more bytes: five digits and the line feed
+--   most_output    no output has more bytes: a line for each rank
+use Rattle.std.specs.Prelude.{ℕ, ◌*◌, List, [], ◌∷◌, ◌++◌}
 use Rattle.print_text.specs.Decimal.{Text, decimal}
 use Rattle.print_text.specs.Line.{line}
 use Rattle.pairs.specs.Slots.{row_starts}
@@ -29,7 +28,3 @@ most_line = 6
 
 abbrev pub most_output : ℕ
 most_output = 255 * most_line
-
-pub record LineRoom (out : Text) (at rank : ℕ) : Type 0 where
-  pub room : at + most_line ≤ length out
-  pub ranked : rank < 255

@@ -1,20 +1,20 @@
 -- What is left to prove of `put_output`.
-use mathlib.Core.Path.{◌≡◌, subst}
 use native.Mathlib.Omega.{arith}
-use Rattle.print_rows.proofs.LineLaws.{Lines, no_lines, one_more, all_lines}
+use Rattle.print_rows.specs.Output.{row_lines}
+use Rattle.print_text.proofs.LineLaws.{put-nothing, put_both, put_in}
+use Rattle.print_rows.proofs.LineLaws.{lines_more, all_lines}
 use Rattle.print_rows.proofs.put_output.Goals as goal
 
 pub loop-rank-init : goal.loop-rank-init
-loop-rank-init c = no_lines c.args.out.now c.requires
+unfolding row_lines
+loop-rank-init c = record { put = put-nothing _; few = omega arith }
 
 pub loop-rank-preserved : goal.loop-rank-preserved
 loop-rank-preserved c =
-    one_more c.loop-rank.invariant c.loop-rank-test.true c.row_line-end.ensures.put c.row_line-end.ensures.few
+    let l = c.loop-rank in
+    rw (lines_more l.rank c.loop-rank-test.true) (put_both l.invariant c.row_line.ensures (omega arith))
 
 pub returns : goal.returns
 returns c =
     let l = c.loop-rank in
-    let i = l.invariant in
-    let e : l.rank ≡ 255 = let a = i.within in let b = c.loop-rank-test.false in omega arith in
-    let w = subst (Lines c.args.out.now l.out l.end) e i in
-    record { put = all_lines w; few = omega (arith, w.few) }
+    put_in l.invariant (all_lines l.rank c.loop-rank-test.false) (omega arith)

@@ -1,11 +1,11 @@
--- `print_rows::put_output` meets its contract. The loop's invariant: the lines of the first ranks are written, and took at most 6 bytes each.
+-- `print_rows::put_output` meets its contract. The loop's invariant: the lines of the first ranks are printed, and took at most 6 bytes each.
 -- Assumes nothing.
-use Prim.Native.Nat.{◌-◌}
-use Rattle.print_rows.proofs.LineLaws.{Lines}
+use Prim.Native.Nat.{◌*◌}
+use lib.ListN.{take}
+use Rattle.pairs.specs.Slots.{row_starts}
+use Rattle.print_text.specs.Line.{PutIn}
+use Rattle.print_rows.specs.Output.{row_lines, most_line}
 use Rattle.print_rows.proofs.put_output.Given as goal
 
 abbrev pub invariant-loop-rank : goal.invariant-loop-rank
-invariant-loop-rank l = Lines l.initial.out l.out l.end l.rank
-
-abbrev pub decreases-loop-rank : goal.decreases-loop-rank
-decreases-loop-rank l = 255 - l.rank
+invariant-loop-rank l = PutIn (l.rank * most_line) l.initial.printer (row_lines (take l.rank row_starts)) l.printer
