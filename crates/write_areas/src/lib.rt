@@ -35,10 +35,9 @@ pub fn put_side(area: &mut [u8], slot: usize, words: [u64; SIDE_WORDS])
     ensures { (s : Side) → SideWords words s → area.new ≡ put_side slot s area.old }
 {
     let from = SIDE_LENGTH * slot;
-    put_eight(area, from, words[0]);
-    put_eight(area, from + 8, words[1]);
-    put_eight(area, from + 16, words[2]);
-    put_eight(area, from + 24, words[3]);
+    for (k, word) in words.iter().enumerate() {
+        put_eight(area, from + 8 * k, *word);
+    }
 }
 
 // Writes a report.
