@@ -10,15 +10,12 @@ const STDOUT: i32 = 1;
 // Bytes of the input behind these are not read.
 const MOST_INPUT: usize = 32768;
 
-// Reads until the buffer is full or the input ends, and prints what the bytes read give.
-fn report(input: &mut [u8]) {
-    let read = io::read_full(STDIN, input);
+// Reads until the buffer is full or the input ends, and prints what the bytes read give. By the kit's `io`: std's readers fill a buffer only
+// where the input is long enough, or one on the heap.
+fn main() {
+    let mut input = [0u8; MOST_INPUT];
+    let read = io::read_full(STDIN, &mut input);
     let mut out = [0u8; MOST_OUTPUT];
     let lines = report_lines(&mut out, &input[..read]);
     io::write_all(STDOUT, lines);
-}
-
-fn main() {
-    let mut input = [0u8; MOST_INPUT];
-    report(&mut input);
 }
