@@ -2,13 +2,13 @@
 #![tactic(auto)]
 
 ghost use Rattle.std.specs.Prelude.{◌≡◌, List, ℕ};
-ghost use Rattle.cuts.specs.Network.{Network, Tree};
-ghost use Rattle.arrays.specs.ByNode.{Degrees};
-ghost use Rattle.tree_ranks.specs.Ranks.{RankedHeld};
+ghost use Rattle.cuts.specs.Network.{Tree};
+ghost use Rattle.arrays.specs.Sheets.{network_of};
+ghost use Rattle.tree_ranks.specs.Ranks.{RankedTree};
 ghost use Rattle.pair_rows.specs.Writing.{slot_of_ranks, Slotted, RowWritable, RowWritten, PairsWritable, PairsLeft};
 
-use by_node::LISTS;
-use format::limits::{MOST_LINKS, MOST_NODES};
+use arrays::listed_sheets::ListedSheet;
+use format::limits::MOST_NODES;
 use row_starts::{ROWS, row_starts};
 use tree_ranks::Ranked;
 use tree_rows::{Figures, NO_FIGURES};
@@ -45,28 +45,21 @@ fn write_row(
     }
 }
 
-// Writes the weights of all pairs of a tree to the front of the area, each at its slot; `degrees` has the weight of each node's links.
+// Writes the weights of all pairs of a tree of a listed sheet to the front of the area, each at its slot.
 // Cost: as that of `search_tree`.
-pub fn write_pairs(
-    area: &mut [u64],
-    nodes: usize,
-    ends: &[[u8; MOST_LINKS]; 2],
-    weights: &[u32; MOST_LINKS],
-    lists: &[u16; LISTS],
-    degrees: &[u64; MOST_NODES],
-    r: Ranked,
-)
-    requires { PairsWritable area.old ends.now lists.now r.node r.stops r.rank nodes }
-    ensures { (net : Network) (t : Tree)
-        → RankedHeld net t ends.now weights.now lists.now nodes r
-        → Degrees net degrees.now
-        → PairsLeft net t area.old area.new }
+pub fn write_pairs(area: &mut [u64], n: &ListedSheet, r: &Ranked)
+    requires { PairsWritable area.old n.now.sheet.layout.nodes r.now }
+    ensures { (t : Tree) → RankedTree (network_of n.now.sheet) t r.now
+        → PairsLeft (network_of n.now.sheet) t area.old area.new }
 {
+    let nodes = n.sheet.layout.nodes;
+    let index = n.index;
+    let p = &r.places;
     let starts = row_starts();
     let mut figures = NO_FIGURES;
-    figures.weigh_places(nodes, &r.node, degrees);
+    figures.weigh_places(nodes, &p.node, &index.degrees);
     for u in (1..nodes).rev() {
-        figures.make_row(nodes, ends, weights, lists, &r.place, &r.node, &r.stops, u);
-        write_row(area, &figures, nodes, &r.stops, &r.rank, &starts, u);
+        figures.make_row(nodes, n.sheet.links, index, p, u);
+        write_row(area, &figures, nodes, &p.stops, &r.rank, &starts, u);
     }
 }

@@ -4,15 +4,15 @@
 ghost use Rattle.std.specs.Prelude.{◌≡◌, List, ℕ, ◌+◌, leb};
 ghost use Rattle.cuts.specs.Network.{Network, Tree};
 ghost use Rattle.cuts.specs.Candidate.{weight_of};
-ghost use Rattle.arrays.specs.ByNode.{Degrees};
+ghost use Rattle.arrays.specs.Sheets.{network_of};
 ghost use Rattle.tree_rows.specs.Reading.{RowHeld, RowAt};
-ghost use Rattle.tree_ranks.specs.Ranks.{RankedHeld};
+ghost use Rattle.tree_ranks.specs.Ranks.{RankedTree};
 ghost use Rattle.bit_table.specs.Cells.{Tabled};
 ghost use Rattle.search_ties.specs.Ties.{IsCellOf, InRows, LightMarked, Markable};
 
+use arrays::listed_sheets::ListedSheet;
 use bit_table::set_bit;
-use by_node::LISTS;
-use format::limits::{MOST_LINKS, MOST_NODES};
+use format::limits::MOST_NODES;
 use tree_ranks::{Ranked, TABLE};
 use tree_rows::{Figures, NO_FIGURES};
 
@@ -55,29 +55,20 @@ fn mark_row(
     }
 }
 
-// Marks in the table, which has no bit set, exactly those candidates of a tree that weigh no more than the limit; `degrees` has the weight of
-// each node's links.
+// Marks in the table, which has no bit set, exactly those candidates of a tree of a listed sheet that weigh no more than the limit.
 // Cost: as that of `search_tree`.
-pub fn mark_ties(
-    table: &mut [u64; TABLE],
-    nodes: usize,
-    ends: &[[u8; MOST_LINKS]; 2],
-    weights: &[u32; MOST_LINKS],
-    lists: &[u16; LISTS],
-    degrees: &[u64; MOST_NODES],
-    r: Ranked,
-    limit: u64,
-)
-    requires { Markable table.old ends.now lists.now r.node r.stops nodes }
-    ensures { (net : Network) (t : Tree)
-        → RankedHeld net t ends.now weights.now lists.now nodes r
-        → Degrees net degrees.now
-        → Tabled net t (λ h. leb (weight_of net t h) limit) table.new }
+pub fn mark_ties(table: &mut [u64; TABLE], n: &ListedSheet, r: &Ranked, limit: u64)
+    requires { Markable table.old n.now.sheet.layout.nodes r.now }
+    ensures { (t : Tree) → RankedTree (network_of n.now.sheet) t r.now
+        → Tabled (network_of n.now.sheet) t (λ h. leb (weight_of (network_of n.now.sheet) t h) limit) table.new }
 {
+    let nodes = n.sheet.layout.nodes;
+    let index = n.index;
+    let p = &r.places;
     let mut figures = NO_FIGURES;
-    figures.weigh_places(nodes, &r.node, degrees);
+    figures.weigh_places(nodes, &p.node, &index.degrees);
     for u in (1..nodes).rev() {
-        figures.make_row(nodes, ends, weights, lists, &r.place, &r.node, &r.stops, u);
-        mark_row(table, &figures, nodes, &r.stops, &r.rank, u, limit);
+        figures.make_row(nodes, n.sheet.links, index, p, u);
+        mark_row(table, &figures, nodes, &p.stops, &r.rank, u, limit);
     }
 }

@@ -4,7 +4,7 @@
 --   kept, indexed, searchable, tree_held   its arrays are as a row needs them
 --   pairs           all pairs, by computing both sides
 -- Assumes nothing.
-use Rattle.std.proofs.Common.{◌≡◌, ℕ, zero, suc, ◌+◌, ◌-◌, ◌*◌, ◌^◌, ◌<◌, Bool, true, false, not, ◌||◌, eqb, ltb, leb, ◌⊎◌, List, [], ◌∷◌, ◌++◌, replicate, sym, refl, ap, ◌∙◌, inl, inr, arith, ltb-true, eq-eqb, eqb-true, leb-true}
+use Rattle.std.proofs.Common.{◌≡◌, ℕ, zero, suc, ◌+◌, ◌-◌, ◌*◌, ◌^◌, ◌<◌, Bool, true, false, not, ◌||◌, eqb, ltb, leb, ◌⊎◌, List, [], ◌∷◌, sym, refl, ap, ◌∙◌, inl, inr, arith, ltb-true, eq-eqb, eqb-true, leb-true}
 use mathlib.Core.Bool.{beq}
 use lib.Seq.{slice}
 use Rattle.cuts.specs.Sums.{all_to, table}
@@ -16,8 +16,11 @@ use Rattle.cuts.proofs.FlagLaws.{either, flags_equal, clash}
 use Rattle.cuts.proofs.SumLaws.{all_to-at, table-length, table_at}
 use Rattle.cuts.proofs.ListLaws.{mem_at}
 use Rattle.arrays.specs.Lists.{entry}
-use Rattle.arrays.specs.ByNode.{links_at, starts, runs, Indexed}
+use Rattle.arrays.specs.ByNode.{links_at, Indexed}
 use Rattle.arrays.specs.Kept.{within, LinksAt, Kept}
+use Rattle.arrays.specs.declared.Index.{Index}
+use Rattle.arrays.specs.declared.Links.{Links}
+use Rattle.tree_places.specs.declared.Places.{Places}
 use Rattle.search_order.specs.Visits.{handle_at}
 use Rattle.tree_rows.specs.Rows.{sum_over, crossing}
 use Rattle.tree_rows.specs.Making.{Searchable, TreeHeld}
@@ -58,8 +61,20 @@ seconds = 1 ∷ 2 ∷ 1 ∷ 4 ∷ 4 ∷ 0 ∷ 3 ∷ []
 abbrev weights : List ℕ
 weights = 3 ∷ 2 ∷ 4 ∷ 1 ∷ 5 ∷ 2 ∷ 1 ∷ []
 
-abbrev lists : List ℕ
-lists = (0 ∷ 3 ∷ 6 ∷ 9 ∷ 12 ∷ 14 ∷ replicate 251 0) ++ (0 ∷ 3 ∷ 5 ∷ 0 ∷ 1 ∷ 2 ∷ 1 ∷ 4 ∷ 6 ∷ 2 ∷ 5 ∷ 6 ∷ 3 ∷ 4 ∷ [])
+abbrev starts : List ℕ
+starts = 0 ∷ 3 ∷ 6 ∷ 9 ∷ 12 ∷ 14 ∷ []
+
+abbrev runs : List ℕ
+runs = 0 ∷ 3 ∷ 5 ∷ 0 ∷ 1 ∷ 2 ∷ 1 ∷ 4 ∷ 6 ∷ 2 ∷ 5 ∷ 6 ∷ 3 ∷ 4 ∷ []
+
+abbrev held : Links
+held = record { firsts = firsts; seconds = seconds; weights = weights }
+
+abbrev index : Index
+index = record { starts = starts; runs = runs; degrees = [] }
+
+abbrev places : Places
+places = record { place = place; node = node; stops = stops; links = links }
 
 -- ---- what is asked of them
 
@@ -142,7 +157,7 @@ kept = record {
     same p x = beq (flag (below small grown (entry links p)) x) (within p (entry stops p) (entry place x))
 
 -- the run of each node
-run : (x : ℕ) → x < 5 → slice (entry (starts lists) x) (entry (starts lists) (x + 1)) (runs lists) ≡ links_at firsts seconds x (table 7 (λ k. k))
+run : (x : ℕ) → x < 5 → slice (entry starts x) (entry starts (x + 1)) runs ≡ links_at firsts seconds x (table 7 (λ k. k))
 unfolding links_at table
 run zero b = refl
 run (suc zero) b = refl
@@ -151,7 +166,7 @@ run (suc (suc (suc zero))) b = refl
 run (suc (suc (suc (suc zero)))) b = refl
 run (suc (suc (suc (suc (suc x))))) b = absurd (omega arith)
 
-pub indexed : Indexed small (firsts ∷ seconds ∷ []) weights lists 5 7
+pub indexed : Indexed small held index 5 7
 unfolding all_to
 indexed = record {
   laid = record {
@@ -179,22 +194,22 @@ indexed = record {
           second_in = ltb-true _ 5 (all-links (λ k. ltb (entry seconds k) 5) refl k b);
         };
     start = refl;
-    rises = λ x b. leb-true _ _ (all_nodes (λ x. leb (entry (starts lists) x) (entry (starts lists) (x + 1))) refl x b);
-    room = λ x b. leb-true _ 14 (all_nodes (λ x. leb (entry (starts lists) (x + 1)) 14) refl x b);
+    rises = λ x b. leb-true _ _ (all_nodes (λ x. leb (entry starts x) (entry starts (x + 1))) refl x b);
+    room = λ x b. leb-true _ 14 (all_nodes (λ x. leb (entry starts (x + 1)) 14) refl x b);
     at = run;
   };
 }
 
-pub searchable : Searchable (firsts ∷ seconds ∷ []) lists node stops 5
+pub searchable : Searchable held index places 5
 unfolding all_to
 searchable = record {
   few_nodes = omega arith;
   links_listed = (7, omega arith, indexed.by_node);
-  nodes-in = λ i b. ltb-true _ 5 (all_to-at most_nodes (λ i. ltb (entry node i) 5) refl i b);
+  nodes_in = λ i b. ltb-true _ 5 (all_to-at most_nodes (λ i. ltb (entry node i) 5) refl i b);
   stops_in = λ i b. ltb-true _ (most_nodes + 1) (all_to-at most_nodes (λ i. ltb (entry stops i) (most_nodes + 1)) refl i b);
 }
 
-pub tree_held : TreeHeld small grown (firsts ∷ seconds ∷ []) weights lists place node stops links 5
+pub tree_held : TreeHeld small grown held index places 5
 tree_held = record { count = 7; indexed = indexed; kept = kept }
 
 -- ---- all pairs

@@ -9,3 +9,4 @@ pub mod SumLaws
 pub mod RowLaws
 pub mod LoopLaws
 pub mod Cases
+pub mod ListedLaws

@@ -1,8 +1,6 @@
 // Rows of pairs: the weights of all pairs of a tree's links, each in a few steps. The nodes have places, so that those below a link have
 // the places from its own up to its stop. The row of a place u is made from the row of u + 1, and gives the weight of the link at u with
 // every link behind it.
-// `ends` has the first and the second end of each link, `lists` where each node's links begin, STARTS numbers, and behind these the links'
-// numbers, `place` the place of each node and `node` the node at each place.
 // The sums are written as ones that may wrap, since the arrays alone do not say how large they are; of every network with at most 2,048
 // links of weights below 2^32 they stay below 2^45, and none wraps.
 #![tactic(auto)]
@@ -19,8 +17,10 @@ ghost use Rattle.tree_rows.specs.Making.{LinksAddable, RunAddable, RowStartable,
 ghost use Rattle.tree_rows.specs.Making.{TreeHeld, RowStart, RowsHeld, BesideDegrees, SumsMade};
 ghost use Rattle.tree_rows.specs.Reading.{RowHeld, Behind, RowFrom, Heavy, NextLight};
 
-use by_node::{LISTS, STARTS, far_end};
-use format::limits::{MOST_LINKS, MOST_NODES};
+use arrays::{Index, Links};
+use by_node::far_end;
+use format::limits::MOST_NODES;
+use tree_places::Places;
 
 // The figures of a row, by place. The sums come first: where sums and tallies are 2,048 bytes apart, processors take the next tally for the
 // sum just stored, and wait.
@@ -45,52 +45,39 @@ pub const NO_FIGURES: Figures = Figures {
 };
 
 // Adds to the tally of each place the weight of the links between it and node `x`.
-fn add_links(
-    tallies: &mut [u64; MOST_NODES],
-    ends: &[[u8; MOST_LINKS]; 2],
-    weights: &[u32; MOST_LINKS],
-    lists: &[u16; LISTS],
-    place: &[u8; MOST_NODES],
-    x: u8,
-)
-    requires { LinksAddable ends.now lists.now x }
-    ensures { (net : Network) (t : Tree) (node stops links : List ℕ) (nodes : ℕ)
-        → TreeHeld net t ends.now weights.now lists.now
-        place.now node stops links nodes
-        → x < nodes
-        → Added net place.now (entry place.now x) tallies.old tallies.new }
+fn add_links(tallies: &mut [u64; MOST_NODES], links: &Links, index: &Index, p: &Places, x: u8)
+    requires { LinksAddable links.now index.now x }
+    ensures { (net : Network) (t : Tree) (nodes : ℕ)
+        → TreeHeld net t links.now index.now p.now nodes → x < nodes
+        → Added net p.now.place (entry p.now.place x) tallies.old tallies.new }
 {
-    let from = lists[x as usize] as usize;
-    let to = lists[x as usize + 1] as usize;
-    let run = &lists[STARTS + from..STARTS + to];
-    for &k in run {
+    let from = index.starts[x as usize] as usize;
+    let to = index.starts[x as usize + 1] as usize;
+    for &k in &index.runs[from..to] {
         let k = k as usize;
-        let y = place[far_end(ends[0][k], ends[1][k], x) as usize] as usize;
-        tallies[y] = tallies[y].wrapping_add(weights[k] as u64);
+        let y = p.place[far_end(links.firsts[k], links.seconds[k], x) as usize] as usize;
+        tallies[y] = tallies[y].wrapping_add(links.weights[k] as u64);
     }
 }
 
 // Adds the links of the nodes at the places from `from` up to `to`.
 fn add_run(
     tallies: &mut [u64; MOST_NODES],
-    ends: &[[u8; MOST_LINKS]; 2],
-    weights: &[u32; MOST_LINKS],
-    lists: &[u16; LISTS],
-    place: &[u8; MOST_NODES],
-    node: &[u8; MOST_NODES],
+    links: &Links,
+    index: &Index,
+    p: &Places,
     from: usize,
     to: usize,
 )
-    requires { RunAddable ends.now lists.now node.now to }
-    ensures { (net : Network) (t : Tree) (stops links : List ℕ) (nodes first : ℕ)
-        → TreeHeld net t ends.now weights.now lists.now
-        place.now node.now stops links nodes
+    requires { RunAddable links.now index.now p.now to }
+    ensures { (net : Network) (t : Tree) (nodes first : ℕ)
+        → TreeHeld net t links.now index.now p.now nodes
         → first ≤ from → from ≤ to → to ≤ nodes
-        → Tallied net place.now first from tallies.old
-        → Tallied net place.now first to tallies.new }
+        → Tallied net p.now.place first from tallies.old
+        → Tallied net p.now.place first to tallies.new }
 {
-    for p in from..to {
-        add_links(tallies, ends, weights, lists, place, node[p]);
+    for at in from..to {
+        add_links(tallies, links, index, p, p.node[at]);
     }
 }
 
@@ -120,25 +107,21 @@ fn start_row(
 fn tally_row(
     tallies: &mut [u64; MOST_NODES],
     nodes: usize,
-    ends: &[[u8; MOST_LINKS]; 2],
-    weights: &[u32; MOST_LINKS],
-    lists: &[u16; LISTS],
-    place: &[u8; MOST_NODES],
-    node: &[u8; MOST_NODES],
-    stops: &[u16; MOST_NODES],
+    links: &Links,
+    index: &Index,
+    p: &Places,
     u: usize,
 )
-    requires { RowTallyable ends.now lists.now node.now stops.now nodes u }
-    ensures { (net : Network) (t : Tree) (links : List ℕ)
-        → TreeHeld net t ends.now weights.now lists.now
-        place.now node.now stops.now links nodes
-        → 0 < u → RowTallied net place.now stops.now (suc u) tallies.old
-        → RowTallied net place.now stops.now u tallies.new }
+    requires { RowTallyable links.now index.now p.now nodes u }
+    ensures { (net : Network) (t : Tree)
+        → TreeHeld net t links.now index.now p.now nodes
+        → 0 < u → RowTallied net p.now.place p.now.stops (suc u) tallies.old
+        → RowTallied net p.now.place p.now.stops u tallies.new }
 {
-    let stop = stops[u] as usize;
-    let from = start_row(tallies, nodes, stops, u);
-    add_run(tallies, ends, weights, lists, place, node, from, stop);
-    add_links(tallies, ends, weights, lists, place, node[u]);
+    let stop = p.stops[u] as usize;
+    let from = start_row(tallies, nodes, &p.stops, u);
+    add_run(tallies, links, index, p, from, stop);
+    add_links(tallies, links, index, p, p.node[u]);
 }
 
 // Makes the sums of what crosses the places from `u` up to `stop`, from u on.
@@ -184,36 +167,14 @@ impl Figures {
     }
 
     // Makes the row of `u` from the row of u + 1.
-    pub fn make_row(
-        &mut self,
-        nodes: usize,
-        ends: &[[u8; MOST_LINKS]; 2],
-        weights: &[u32; MOST_LINKS],
-        lists: &[u16; LISTS],
-        place: &[u8; MOST_NODES],
-        node: &[u8; MOST_NODES],
-        stops: &[u16; MOST_NODES],
-        u: usize,
-    )
-        requires { RowMakeable ends.now lists.now node.now stops.now nodes u }
-        ensures { (net : Network) (t : Tree) (links : List ℕ)
-            → RowsHeld net t ends.now weights.now lists.now
-            place.now node.now stops.now links nodes (suc u) self.old
-            → RowsHeld net t ends.now weights.now lists.now
-            place.now node.now stops.now links nodes u self.new }
+    pub fn make_row(&mut self, nodes: usize, links: &Links, index: &Index, p: &Places, u: usize)
+        requires { RowMakeable links.now index.now p.now nodes u }
+        ensures { (net : Network) (t : Tree)
+            → RowsHeld net t links.now index.now p.now nodes (suc u) self.old
+            → RowsHeld net t links.now index.now p.now nodes u self.new }
     {
-        let stop = stops[u] as usize;
-        tally_row(
-            &mut self.tallies,
-            nodes,
-            ends,
-            weights,
-            lists,
-            place,
-            node,
-            stops,
-            u,
-        );
+        let stop = p.stops[u] as usize;
+        tally_row(&mut self.tallies, nodes, links, index, p, u);
         sum_row(&mut self.sums, &self.degrees, &self.tallies, nodes, stop, u);
         self.singles[u] = self.sums[stop];
     }
