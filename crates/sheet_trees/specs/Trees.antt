@@ -4,17 +4,16 @@
 --   TreeRanked n i r     r has tree i of the sheet n by places and ranks
 use Rattle.std.specs.Prelude.{ℕ, ◌+◌, ◌≤◌, length}
 use Rattle.cuts.specs.Network.{tree_at}
-use Rattle.cuts.specs.Limits.{most_nodes, most_links}
+use Rattle.cuts.specs.Limits.{most_links}
 use Rattle.sheet.specs.Bytes.{Bytes}
 use Rattle.sheet.specs.Sheet.{tree_length}
-use Rattle.arrays.specs.Lists.{Within}
 use Rattle.arrays.specs.Kept.{Kept}
 use Rattle.arrays.specs.Records.{record_of}
 use Rattle.arrays.specs.Sheets.{network_of}
 use Rattle.arrays.specs.declared.Layout.{Layout}
 use Rattle.arrays.specs.declared.sheets.Sheet.{Sheet}
-use Rattle.tree_places.specs.Places.{StopsKnown}
 use Rattle.tree_places.specs.declared.Places.{Places}
+use Rattle.tree_rows.specs.Making.{PlacesKnown}
 use Rattle.tree_ranks.specs.Ranks.{RankedTree}
 use Rattle.tree_ranks.specs.declared.Ranked.{Ranked}
 
@@ -23,11 +22,9 @@ pub record RecordThere (s : Bytes) (l : Layout) (i : ℕ) : Type 0 where
   pub inside : record_of l i + tree_length l.links ≤ length s
 
 pub record TreePlaced (n : Sheet) (i : ℕ) (r : Places) : Type 0 where
-  pub nodes_known : Within r.node most_nodes n.layout.nodes
-  pub stops_known : StopsKnown r.stops
+  pub places_known : PlacesKnown n.layout.nodes r
   pub kept : Kept (network_of n) (tree_at (network_of n) i) r.place r.node r.stops r.links
 
 pub record TreeRanked (n : Sheet) (i : ℕ) (r : Ranked) : Type 0 where
-  pub nodes_known : Within r.node most_nodes n.layout.nodes
-  pub stops_known : StopsKnown r.stops
+  pub places_known : PlacesKnown n.layout.nodes r.places
   pub ranked : RankedTree (network_of n) (tree_at (network_of n) i) r

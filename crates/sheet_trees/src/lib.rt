@@ -2,10 +2,12 @@
 #![tactic(auto)]
 
 ghost use Rattle.std.specs.Prelude.{◌≡◌, ◌<◌};
-ghost use Rattle.arrays.specs.Records.{record_of, map_at, SheetListed};
+ghost use Rattle.arrays.specs.Records.{record_of, map_at};
+ghost use Rattle.arrays.specs.Sheets.{SheetListed};
 ghost use Rattle.sheet_trees.specs.Trees.{TreePlaced, TreeRanked};
 
-use arrays::sheets::{Index, Sheet};
+use arrays::Index;
+use arrays::sheets::Sheet;
 use by_node::index_links;
 use read_sheet::tree_records::{grow_tree, record_at, tree_map};
 use tree_places::{Places, place_tree};
@@ -13,18 +15,9 @@ use tree_ranks::{Ranked, rank_places};
 
 // Lists the links by node and weighs the nodes.
 pub fn index_sheet(index: &mut Index, n: &Sheet)
-    ensures { SheetListed n.now.bytes.now n.now.links.now.ends n.now.links.now.weights
-        index.new.lists index.new.degrees n.now.layout }
+    ensures { SheetListed n.now index.new }
 {
-    let links = n.links;
-    index_links(
-        &mut index.lists,
-        &mut index.degrees,
-        n.layout.nodes,
-        n.layout.links,
-        &links.ends,
-        &links.weights,
-    );
+    index_links(index, n.layout.nodes, n.layout.links, n.links);
 }
 
 // The link map of a tree.
@@ -43,11 +36,8 @@ pub fn place_record(n: &Sheet, tree: usize) -> Places
     ensures { TreePlaced n.now tree result }
 {
     let l = n.layout;
-    let links = n.links;
-    place_tree(
-        l.nodes,
-        grow_tree(map_of(n, tree), l.nodes, l.links, &links.ends),
-    )
+    let grown = grow_tree(map_of(n, tree), l.nodes, l.links, n.links);
+    place_tree(l.nodes, &grown.unwrap())
 }
 
 // A tree by its places and ranks.

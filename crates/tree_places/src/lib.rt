@@ -188,13 +188,13 @@ fn gather(nodes: usize, node: &[u8; MOST_NODES], from: &[u16; MOST_NODES]) -> [u
 }
 
 // A tree by its places.
-pub fn place_tree(nodes: usize, g: Grown) -> Places
+pub fn place_tree(nodes: usize, g: &Grown) -> Places
     requires { SomeNodes nodes }
-    ensures { TreePlaced nodes g result }
+    ensures { TreePlaced nodes g.now result }
 {
-    let sizes = subtree_sizes(nodes, &g);
-    let heavy = heaviest_children(nodes, &g, &sizes);
-    let Intervals { place, stop } = place_nodes(nodes, &g, &sizes, &heavy);
+    let sizes = subtree_sizes(nodes, g);
+    let heavy = heaviest_children(nodes, g, &sizes);
+    let Intervals { place, stop } = place_nodes(nodes, g, &sizes, &heavy);
     let node = nodes_by_place(nodes, &place);
     let stops = gather(nodes, &node, &stop);
     let links = gather(nodes, &node, &g.uplinks);

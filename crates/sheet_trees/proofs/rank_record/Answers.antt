@@ -1,13 +1,9 @@
 -- `sheet_trees::rank_record` meets its contract: the tree is placed, and of a network that it spans each place but the root's has one of the
 -- links, so that these can be ranked.
 -- Assumes nothing.
-use Prim.Native.Nat.{ℕ}
 use mathlib.Core.Path.{refl, sym, subst}
-use mathlib.Core.List.{List}
 use native.Mathlib.Omega.{arith}
-use Rattle.cuts.specs.Limits.{most_nodes}
-use Rattle.arrays.specs.Lists.{Within}
-use Rattle.tree_places.specs.Places.{StopsKnown}
+use Rattle.tree_rows.specs.Making.{PlacesKnown}
 use Rattle.read_sheet.proofs.NetworkLaws.{network_at-links, links_known}
 use Rattle.sheet_trees.proofs.rank_record.Goals as goal
 
@@ -28,7 +24,6 @@ returns c =
     let placed = c.place_record.ensures in
     let r = c.rank_places.ensures in
     record {
-      nodes_known = subst (λ (l : List ℕ). Within l most_nodes n.layout.nodes) (sym r.same_node) placed.nodes_known;
-      stops_known = subst StopsKnown (sym r.same_stops) placed.stops_known;
+      places_known = subst (PlacesKnown n.layout.nodes) (sym r.same_places) placed.places_known;
       ranked = r.ranked _ _ placed.kept refl (network_at-links n.held);
     }
