@@ -146,9 +146,9 @@ module _ {net : Network} {t t' : Tree} {place node stops links layers : List ℕ
 
 -- ---- cells
 
-module _ {net : Network} {t t' : Tree} {r : Ranked} {layers : List ℕ} (k : RankedTree net t r) (m : Marked net t' r.place layers) where
+module _ {net : Network} {t t' : Tree} {r : Ranked} {layers : List ℕ} (k : RankedTree net t r) (m : Marked net t' r.places.place layers) where
   pub cell-crosses : (q : ℕ) → q / most_nodes ≤ q % most_nodes → q % most_nodes < length (member_links net t)
-      → cell_crossings layers r.stops r.at q ≡ crossings net t' (side_of net t (cell_handle (member_links net t) q))
+      → cell_crossings layers r.places.stops r.at q ≡ crossings net t' (side_of net t (cell_handle (member_links net t) q))
   unfolding side_crossings side_of
   cell-crosses q up b = go (ℕ_discrete i j)
     where
@@ -165,7 +165,7 @@ module _ {net : Network} {t t' : Tree} {r : Ranked} {layers : List ℕ} (k : Ran
       last = let n = members-counted k.kept.spanning in omega arith
 
       go : Dec (i ≡ j)
-          → side_crossings layers r.stops (eqb i j) (entry r.at i) (entry r.at j)
+          → side_crossings layers r.places.stops (eqb i j) (entry r.at i) (entry r.at j)
           ≡ crossings net t' (side_of net t (chosen (entry ms i) (entry ms j)))
       go (yes e) =
           let s = last in
@@ -183,12 +183,12 @@ module _ {net : Network} {t t' : Tree} {r : Ranked} {layers : List ℕ} (k : Ran
           (k.ranks.member i (omega arith)) (k.ranks.member j (omega arith)))
 
   pub tabled_struck : (p : Handle → Bool) (before after : List ℕ) → Tabled net t p before
-      → Struck net.nodes layers r.stops r.at before after
+      → Struck net.nodes layers r.places.stops r.at before after
       → Tabled net t (λ h. p h && not (leb (crossings net t' (side_of net t h)) 2)) after
   tabled_struck p before after f g q = g q ∙ ap (λ (x : Bool). x && not struck) (f q) ∙ go (truth (is_cell (length ms) q))
     where
       struck : Bool
-      struck = ltb q (cells_end (net.nodes - 1)) && leb (cell_crossings layers r.stops r.at q) 2
+      struck = ltb q (cells_end (net.nodes - 1)) && leb (cell_crossings layers r.places.stops r.at q) 2
 
       ms : List ℕ
       ms = member_links net t

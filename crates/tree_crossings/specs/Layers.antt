@@ -1,12 +1,10 @@
 -- The members of a tree in layers of bits, by the places of another tree: bit r of each layer is for the r-th member by
 -- number, from 0. Assumes nothing.
 --   end_place ends members place r   the place, in `place`, of that end of the r-th of the links `members` which `ends` has
---   EndPlaced ends place link        `ends` has an end of the link, and `place` has its place
 --   PlaceOf ends place link r        r is this place, and no more than a place can be
---   Placeable layers nodes fs ss members count place
+--   Placeable layers nodes fs ss members count
 --                                    all layers are there, with no bit set and room for the first `count` of the links
---                                    `members`; the ends of these, in fs and ss, are nodes, of which there are so many, and
---                                    `place` has their places
+--                                    `members`; the ends of these, in fs and ss, are nodes, of which there are so many
 --   EndsFlipped fs ss members count place layers
 --                                    each of these links has its bit set in the layer behind the place of each end, but not
 --                                    where both have one place, and no other bit is set
@@ -14,7 +12,7 @@
 --                                    each of these links has its bit set in the layers of the places that exactly one of its
 --                                    ends stands before, and no other bit is set, up to the layer `nodes`
 --   odd_count layers a b c d         how many bits are set in an odd number of the four layers
-use Rattle.std.specs.Prelude.{ℕ, suc, ◌≤◌, ◌<◌, ◌≡◌, ◌&&◌, List, length, replicate, eqb, ltb}
+use Rattle.std.specs.Prelude.{ℕ, suc, ◌≤◌, ◌<◌, ◌≡◌, ◌&&◌, List, replicate, eqb, ltb}
 use Rattle.std.specs.Bool.{xor}
 use Rattle.cuts.specs.Sums.{count_to}
 use Rattle.cuts.specs.Limits.{most_nodes}
@@ -25,19 +23,14 @@ use Rattle.place_layers.specs.Layers.{layers_length, layer_bit, oddly}
 abbrev pub end_place : List ℕ → List ℕ → List ℕ → ℕ → ℕ
 end_place ends members place r = entry place (entry ends (entry members r))
 
-pub record EndPlaced (ends place : List ℕ) (link : ℕ) : Type 0 where
-  pub there : link < length ends
-  pub placed : entry ends link < length place
-
 pub record PlaceOf (ends place : List ℕ) (link r : ℕ) : Type 0 where
   pub is : r ≡ entry place (entry ends link)
   pub small : r < most_nodes
 
-pub record Placeable (layers : List ℕ) (nodes : ℕ) (fs ss members : List ℕ) (count : ℕ) (place : List ℕ) : Type 0 where
+pub record Placeable (layers : List ℕ) (nodes : ℕ) (fs ss members : List ℕ) (count : ℕ) : Type 0 where
   pub clear : layers ≡ replicate layers_length 0
   pub chosen : Chosen fs ss members count nodes
   pub few : count < most_nodes
-  pub placed : nodes ≤ length place
 
 abbrev pub EndsFlipped : List ℕ → List ℕ → List ℕ → ℕ → List ℕ → List ℕ → Type 0
 EndsFlipped fs ss members count place layers =

@@ -3,21 +3,19 @@
 --   side_crossings layers stops single u v   how many members in the layers cross the side of the links at the places u and v, or of
 --                                            that at u alone where `single` is set
 --   cell_crossings layers stops at q         how many cross the side of the cell at bit q; `at` has the place of each rank
---   RanksHeld stops at                       the arrays `stops` and `at` have their lengths, and the stops are known
---   CellThere stops at q                     so it is, and q is a bit of a table
---   CellsThere table nodes stops at          so it is, and the table has its length; there are so many nodes, the root among them, and
---                                            no more than a sheet can have
+--   CellThere stops q                        the stops are known, and q is a bit of a table
+--   CellsThere nodes stops                   so they are, and there are so many nodes, the root among them, no more than a sheet can have
 --   Struck nodes layers stops at before after
 --                                            `after` is `before` less the cells, of so many nodes, with sides that at most two cross
 --   Strikable n i r                          the sheet n has a tree i, and r has known stops
-use Rattle.std.specs.Prelude.{ℕ, ◌-◌, ◌/◌, ◌%◌, ◌≤◌, ◌<◌, ◌≡◌, Bool, ◌&&◌, not, cond, List, length, eqb, leb, ltb}
+use Rattle.std.specs.Prelude.{ℕ, ◌-◌, ◌/◌, ◌%◌, ◌≤◌, ◌<◌, ◌≡◌, Bool, ◌&&◌, not, cond, List, eqb, leb, ltb}
 use Rattle.cuts.specs.Limits.{most_nodes}
 use Rattle.arrays.specs.Lists.{entry}
 use Rattle.arrays.specs.declared.sheets.Sheet.{Sheet}
 use Rattle.tree_places.specs.Places.{StopsKnown}
 use Rattle.tree_ranks.specs.declared.Ranked.{Ranked}
 use Rattle.bit_table.specs.Bits.{bit_of}
-use Rattle.bit_table.specs.Cells.{table_length, cells_end}
+use Rattle.bit_table.specs.Cells.{cells_end}
 use Rattle.tree_crossings.specs.Layers.{odd_count}
 
 unfoldable pub side_crossings : List ℕ → List ℕ → Bool → ℕ → ℕ → ℕ
@@ -28,20 +26,14 @@ abbrev pub cell_crossings : List ℕ → List ℕ → List ℕ → ℕ → ℕ
 cell_crossings layers stops at q =
     side_crossings layers stops (eqb (q / most_nodes) (q % most_nodes)) (entry at (q / most_nodes)) (entry at (q % most_nodes))
 
-pub record RanksHeld (stops at : List ℕ) : Type 0 where
-  pub stops_room : length stops ≡ most_nodes
+pub record CellThere (stops : List ℕ) (q : ℕ) : Type 0 where
   pub stops_known : StopsKnown stops
-  pub ranks_room : length at ≡ most_nodes
-
-pub record CellThere (stops at : List ℕ) (q : ℕ) : Type 0 where
-  pub held : RanksHeld stops at
   pub cell : q < cells_end most_nodes
 
-pub record CellsThere (table : List ℕ) (nodes : ℕ) (stops at : List ℕ) : Type 0 where
-  pub table_room : length table ≡ table_length
+pub record CellsThere (nodes : ℕ) (stops : List ℕ) : Type 0 where
   pub some : 0 < nodes
   pub few_nodes : nodes ≤ most_nodes
-  pub held : RanksHeld stops at
+  pub stops_known : StopsKnown stops
 
 abbrev pub Struck : ℕ → List ℕ → List ℕ → List ℕ → List ℕ → List ℕ → Type 0
 Struck nodes layers stops at before after =

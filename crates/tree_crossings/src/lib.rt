@@ -1,7 +1,7 @@
 // The sides of one tree that cross at most two members of another, struck out of a table of its cells.
 #![tactic(auto)]
 
-ghost use Rattle.std.specs.Prelude.{◌≡◌, Bool, ◌&&◌, not, leb};
+ghost use Rattle.std.specs.Prelude.{◌≡◌, ◌<◌, Bool, ◌&&◌, not, length, leb};
 ghost use Rattle.cuts.specs.Network.{Tree, tree_at};
 ghost use Rattle.cuts.specs.Cut.{crossings};
 ghost use Rattle.cuts.specs.Candidate.{Handle, side_of};
@@ -9,7 +9,7 @@ ghost use Rattle.arrays.specs.Sheets.{network_of};
 ghost use Rattle.tree_ranks.specs.Ranks.{RankedTree};
 ghost use Rattle.bit_table.specs.Cells.{Tabled};
 ghost use Rattle.place_layers.specs.Layers.{FourLayers};
-ghost use Rattle.tree_crossings.specs.Layers.{EndPlaced, PlaceOf, Placeable, EndsFlipped, EndsParted, odd_count};
+ghost use Rattle.tree_crossings.specs.Layers.{PlaceOf, Placeable, EndsFlipped, EndsParted, odd_count};
 ghost use Rattle.tree_crossings.specs.Strikes.{CellThere, cell_crossings, CellsThere, Struck, Strikable};
 
 use arrays::sheets::Sheet;
@@ -21,8 +21,8 @@ use sheet_trees::map_of;
 use tree_ranks::{Ranked, TABLE};
 
 // The place of a link's end.
-fn place_of(ends: &[u8], place: &[u8], link: usize) -> usize
-    requires { EndPlaced ends.now place.now link }
+fn place_of(ends: &[u8], place: &[u8; MOST_NODES], link: usize) -> usize
+    requires { link < length ends.now }
     ensures { PlaceOf ends.now place.now link result }
 {
     place[ends[link] as usize] as usize
@@ -36,9 +36,9 @@ fn flip_ends(
     seconds: &[u8],
     members: &[u16],
     count: usize,
-    place: &[u8],
+    place: &[u8; MOST_NODES],
 )
-    requires { Placeable layers.old nodes firsts.now seconds.now members.now count place.now }
+    requires { Placeable layers.old nodes firsts.now seconds.now members.now count }
     ensures { EndsFlipped firsts.now seconds.now members.now count
         place.now layers.new }
 {
@@ -60,9 +60,9 @@ fn mark_layers(
     seconds: &[u8],
     members: &[u16],
     count: usize,
-    place: &[u8],
+    place: &[u8; MOST_NODES],
 )
-    requires { Placeable layers.old nodes firsts.now seconds.now members.now count place.now }
+    requires { Placeable layers.old nodes firsts.now seconds.now members.now count }
     ensures { EndsParted nodes firsts.now seconds.now members.now count
         place.now layers.new }
 {
@@ -87,8 +87,13 @@ fn crosses_few(layers: &[u64; LAYERS], a: usize, b: usize, c: usize, d: usize) -
 
 // Whether at most two members cross the side of the cell at bit q. For the cell of one link the first layer, which has no
 // bit set, stands for both layers of a second.
-fn cell_struck(layers: &[u64; LAYERS], stops: &[u16], at: &[u8], q: usize) -> bool
-    requires { CellThere stops.now at.now q }
+fn cell_struck(
+    layers: &[u64; LAYERS],
+    stops: &[u16; MOST_NODES],
+    at: &[u8; MOST_NODES],
+    q: usize,
+) -> bool
+    requires { CellThere stops.now q }
     ensures { result ≡ leb (cell_crossings layers.now stops.now at.now q) 2 }
 {
     let first = q / MOST_NODES;
@@ -105,8 +110,14 @@ fn cell_struck(layers: &[u64; LAYERS], stops: &[u16], at: &[u8], q: usize) -> bo
 }
 
 // Turns off the bits of the cells whose sides cross at most two members.
-fn strike(table: &mut [u64], layers: &[u64; LAYERS], nodes: usize, stops: &[u16], at: &[u8])
-    requires { CellsThere table.old nodes stops.now at.now }
+fn strike(
+    table: &mut [u64; TABLE],
+    layers: &[u64; LAYERS],
+    nodes: usize,
+    stops: &[u16; MOST_NODES],
+    at: &[u8; MOST_NODES],
+)
+    requires { CellsThere nodes stops.now }
     ensures { Struck nodes layers.now stops.now at.now
         table.old table.new }
 {
@@ -136,8 +147,8 @@ pub fn strike_tree(table: &mut [u64; TABLE], n: &Sheet, i: usize, r: &Ranked)
     mark_layers(
         &mut layers,
         nodes,
-        &links.ends[0],
-        &links.ends[1],
+        &links.firsts,
+        &links.seconds,
         &members,
         count,
         &r.places.place,
