@@ -6,7 +6,9 @@ ghost use Rattle.cuts.specs.Answer.{reported};
 ghost use Rattle.arrays.specs.Sheets.{network_of};
 ghost use Rattle.search_sheet.specs.Reported.{ReportedSays};
 
-use arrays::sheets::{Index, ListedSheet, Sheet};
+use arrays::Index;
+use arrays::listed_sheets::ListedSheet;
+use arrays::sheets::Sheet;
 use search_order::{Found, unfound};
 use search_tree::search_tree;
 use sheet_trees::{index_sheet, place_record};
@@ -24,24 +26,13 @@ pub fn search_listed(n: &ListedSheet) -> Reported
     ensures { ReportedSays result (reported fewer_nodes (network_of n.now.sheet)) }
 {
     let nodes = n.sheet.layout.nodes;
-    let links = n.sheet.links;
-    let index = n.index;
     let mut best = unfound();
     let mut side = [0u64; SIDE_WORDS];
     for i in 0..n.sheet.layout.trees {
         let p = place_record(&n.sheet, i);
-        best = search_tree(
-            nodes,
-            &links.ends,
-            &links.weights,
-            &index.lists,
-            &index.degrees,
-            p,
-            i as u8,
-            best,
-        );
+        best = search_tree(n, &p, i as u8, best);
         if best.tree as usize == i {
-            side = side_of(nodes, p, best.first, best.second);
+            side = side_of(nodes, &p, best.first, best.second);
         }
     }
     Reported { found: best, side }

@@ -17,9 +17,7 @@ use Rattle.search_sheet.proofs.search_listed.Goals.{After-search_tree-best, Join
 searched : (c : After-search_tree-best) → let l = c.loop-i in let m = network_of c.args.n.now.sheet in let t = tree_at m l.i in
     (d : Candidate) → Prior (ahead fewer_nodes) m l.i t d → Says l.best d → Says c.search_tree-best.result (first_from (ahead fewer_nodes) d (tree_candidates m l.i t))
 searched c d prior says =
-    let net : Network = network_of c.args.n.now.sheet in
-    let n = c.args.n.now in
-    c.search_tree-best.ensures net _ d (record { count = n.sheet.layout.links; indexed = n.listed.indexed; kept = c.place_record-p.ensures.kept }) n.listed.degrees_are prior says
+    c.search_tree-best.ensures _ d c.place_record-p.ensures.kept prior says
 
 -- the side of what is found: made where the tree brought it, else that of before
 sided : (c : Joined-best-i) → SideKept (network_of c.args.n.now.sheet) c.search_tree-best.result c.if-best-i.side
