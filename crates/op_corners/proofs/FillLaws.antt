@@ -1,12 +1,14 @@
 -- The table as it is filled, link by link, from arrays: each link has the corners that the bits of its ends say, an entry of a table to which
 -- links are added is a number of eight bytes, and 16 numbers hold the rows one behind the other.
 -- Assumes nothing.
-use Prim.Native.Nat.{ℕ, suc, ◌+◌, ◌*◌, ◌/◌, ◌%◌, ◌^◌, ◌≤◌, ◌<◌}
-use mathlib.Core.Path.{◌≡◌, sym, ap, ap₂, ◌∙◌, subst}
+use Prim.Native.Nat.{ℕ, zero, suc, ◌+◌, ◌*◌, ◌^◌, ◌≤◌, ◌<◌}
+use mathlib.Core.Path.{◌≡◌, sym, ap, ◌∙◌, subst}
 use mathlib.Core.Bool.{Bool, true, false, ◌&&◌}
-use mathlib.Core.List.{List}
+use mathlib.Core.List.{List, [], ◌∷◌, ◌++◌}
 use native.Mathlib.Omega.{arith}
-use lib.ListN.{get_or}
+use lib.ListN.{length, get_or, get_or-append}
+use Rattle.std.proofs.lemmas.List.{get_or-append-add}
+use Rattle.std.specs.List.{flat_map}
 use lib.Dec.{eqb}
 use Rattle.cuts.specs.Sums.{only}
 use Rattle.cuts.specs.Network.{Link, Network, link_at, link_count}
@@ -26,6 +28,10 @@ use Rattle.corners.proofs.ToldLaws.{corner_bits}
 use Rattle.op_corners.specs.Tables.{bare_network, Fillable}
 
 -- ---- link by link
+
+-- a corner that is known, by its number
+pub placed : {k m n : ℕ} → k ≡ m → Is 4 k n → Is 4 m n
+placed e i = record { same = i.same ∙ e; small = i.small }
 
 -- a table t, and the next one, with a link of weight w between the corners x and y added
 pub record Turn (t : List (List ℕ)) (x y w : ℕ) (next : List (List ℕ)) : Type 0 where
@@ -114,9 +120,21 @@ module _ (first second : Bytes) (l : Layout) (ends : List (List ℕ)) (ws : List
 
 -- ---- rows one behind the other
 
-pub rows-read : (cells : List ℕ) (t : List (List ℕ)) → Four t → ((j : ℕ) → j < 16 → get_or cells j 0 ≡ cell t (j / 4) (j % 4)) → table_read cells ≡ t
-rows-read cells t f h =
-    table_read-is cells t f (λ i j b c.
-    let row : (4 * i + j) / 4 ≡ i = omega arith in
-    let column : (4 * i + j) % 4 ≡ j = omega arith in
-    h (4 * i + j) (omega arith) ∙ ap₂ (cell t) row column)
+-- a list of rows of four
+flat_at : (t : List (List ℕ)) → ((i : ℕ) → i < length t → length (get_or t i []) ≡ 4) → (i j : ℕ) → i < length t → j < 4
+    → get_or (flat_map (λ x. x) t) (4 * i + j) 0 ≡ get_or (get_or t i []) j 0
+flat_at [] h i j b c = absurd (omega arith)
+flat_at (x ∷ xs) h zero j b c =
+    let n = h 0 (omega arith) in
+    let e : 4 * 0 + j ≡ j = omega arith in
+    ap (λ (k : ℕ). get_or (x ++ flat_map (λ x. x) xs) k 0) e ∙ get_or-append x _ 0 j (omega arith)
+flat_at (x ∷ xs) h (suc i) j b c =
+    let n = h 0 (omega arith) in
+    let e : 4 * suc i + j ≡ length x + (4 * i + j) = omega arith in
+    ap (λ (k : ℕ). get_or (x ++ flat_map (λ x. x) xs) k 0) e ∙ get_or-append-add x _ (4 * i + j) 0
+    ∙ flat_at xs (λ k l. h (suc k) (omega arith)) i j (omega arith) c
+
+pub rows-read : (t : List (List ℕ)) → Four t → table_read (flat_map (λ x. x) t) ≡ t
+rows-read t f =
+    let n = f.rows in
+    table_read-is (flat_map (λ x. x) t) t f (λ i j b c. flat_at t (λ k l. f.columns k (omega arith)) i j (omega arith) c)

@@ -1,8 +1,10 @@
 -- `op_corners::corner_network` meets its contract, by what both maps give. Assumes nothing.
-use mathlib.Core.Path.{sym, ◌∙◌}
+use mathlib.Core.Path.{sym, ap, ◌∙◌}
 use Rattle.cuts.specs.Network.{Network}
 use Rattle.op_corners.specs.Tables.{bare_network}
-use Rattle.op_corners.proofs.LeftLaws.{first-refused, second-refused, both-given}
+use Rattle.corners.specs.CornersTold.{table_read}
+use Rattle.op_corners.proofs.FillLaws.{rows-read}
+use Rattle.op_corners.proofs.LeftLaws.{first-refused, second-refused, filled-four, both-given}
 use Rattle.op_corners.proofs.corner_network.Goals as goal
 use Rattle.op_corners.proofs.corner_network.Goals.{After-no_side, then-no_side-via-else-no_side+then-no_side-2, then-no_side-via-then-no_side}
 
@@ -23,5 +25,7 @@ returns-then-no_side c =
 pub returns : goal.returns
 returns c =
     let a = c.args in
-    both-given a.first.now a.second.now (net (goal.at.returns c).After-no_side) c.corner_table.ensures
-    (sym c.no_side.ensures ∙ c.if-no_side.false) (sym c.no_side-else-no_side.ensures ∙ c.if-no_side-2.false) c.rows_joined.result c.rows_joined.ensures
+    both-given a.first.now a.second.now (net (goal.at.returns c).After-no_side) c.corner_table-rows.ensures
+    (sym c.no_side.ensures ∙ c.if-no_side.false) (sym c.no_side-else-no_side.ensures ∙ c.if-no_side-2.false) c.copy_from_slice.new.self
+    (ap table_read (c.copy_from_slice.ensures.after ∙ c.as_flattened.ensures.value)
+    ∙ rows-read c.corner_table-rows.result (filled-four a.first.now a.second.now (net (goal.at.returns c).After-no_side) c.corner_table-rows.ensures))
