@@ -3,6 +3,7 @@ ghost use Rattle.sheet.specs.Sheet.{current};
 ghost use Rattle.thickness.specs.ThicknessTold.{ThicknessTold};
 
 use format::limits::MOST_LINKS;
+use format::refusals::returned;
 use op_thickness::sheet_thickness;
 
 // Reads a sheet, writes the smallest weight of a link with which the reported weight is no less than wanted, and returns 0; or returns the
@@ -12,12 +13,12 @@ pub fn wcut_thickness(sheet: &[u8], link: u32, wanted: u64, thickness: &mut u32)
 {
     let mut ends = [[0u8; MOST_LINKS]; 2];
     let mut weights = [0u32; MOST_LINKS];
-    sheet_thickness(
+    returned(sheet_thickness(
         thickness,
         &mut ends,
         &mut weights,
         sheet,
         link as usize,
         wanted,
-    )
+    ))
 }

@@ -3,6 +3,7 @@ ghost use Rattle.sheet.specs.Sheet.{current};
 ghost use Rattle.corners.specs.CornersTold.{table_read, CornersTold};
 
 use format::limits::MOST_LINKS;
+use format::refusals::returned;
 use op_corners::corner_sheet;
 
 // Reads a sheet, writes the weights between the four corners of the two sides that the maps give to the table, four rows of four one behind
@@ -13,5 +14,5 @@ pub fn wcut_corners(sheet: &[u8], first: &[u8], second: &[u8], table: &mut [u64;
 {
     let mut ends = [[0u8; MOST_LINKS]; 2];
     let mut weights = [0u32; MOST_LINKS];
-    corner_sheet(table, &mut ends, &mut weights, sheet, first, second)
+    returned(corner_sheet(table, &mut ends, &mut weights, sheet, first, second))
 }

@@ -3,6 +3,7 @@ ghost use Rattle.sheet.specs.Sheet.{current};
 ghost use Rattle.monitor.specs.ListEntry.{SidesListed};
 
 use format::limits::MOST_LINKS;
+use format::refusals::returned;
 use op_list::list_sheet;
 
 // Reads a sheet, writes every lightest cut that its trees show to the area, 32 bytes a side, and their number, and returns 0; or returns
@@ -13,5 +14,5 @@ pub fn wcut_list(sheet: &[u8], sides: &mut [u8], count: &mut u32) -> u32
 {
     let mut ends = [[0u8; MOST_LINKS]; 2];
     let mut weights = [0u32; MOST_LINKS];
-    list_sheet(sides, count, &mut ends, &mut weights, sheet)
+    returned(list_sheet(sides, count, &mut ends, &mut weights, sheet))
 }

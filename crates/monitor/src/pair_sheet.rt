@@ -3,6 +3,7 @@ ghost use Rattle.sheet.specs.Sheet.{current};
 ghost use Rattle.pairs.specs.PairsWritten.{PairsWritten};
 
 use format::limits::MOST_LINKS;
+use format::refusals::returned;
 use op_pairs::pair_sheet;
 
 // Reads a sheet, writes the weight of each pair of the tree's links to the area, for the ranks s below r at slot r(r - 1)/2 + s, and returns
@@ -13,5 +14,5 @@ pub fn wcut_pairs(sheet: &[u8], tree: u32, weights: &mut [u64]) -> u32
 {
     let mut ends = [[0u8; MOST_LINKS]; 2];
     let mut link_weights = [0u32; MOST_LINKS];
-    pair_sheet(weights, &mut ends, &mut link_weights, sheet, tree as usize)
+    returned(pair_sheet(weights, &mut ends, &mut link_weights, sheet, tree as usize))
 }

@@ -3,7 +3,7 @@ ghost use Rattle.sheet.specs.Sheet.{current};
 ghost use Rattle.monitor.specs.Entry.{Reported};
 
 use format::limits::{MOST_LINKS, REPORT_LENGTH, SIDE_LENGTH};
-use format::refusals;
+use format::refusals::{Refusal, returned};
 use op_report::report_sheet;
 
 // Reads a sheet, writes the lightest cut that its trees show to the side area and the report area, and returns 0; or returns the
@@ -13,12 +13,12 @@ pub fn wcut_report(sheet: &[u8], side: &mut [u8], report: &mut [u8]) -> u32
         side.old report.old side.new report.new result }
 {
     if side.len() < SIDE_LENGTH {
-        return refusals::SHORT_SIDE;
+        return u32::from(Refusal::ShortSide);
     }
     if report.len() < REPORT_LENGTH {
-        return refusals::SHORT_REPORT;
+        return u32::from(Refusal::ShortReport);
     }
     let mut ends = [[0u8; MOST_LINKS]; 2];
     let mut weights = [0u32; MOST_LINKS];
-    report_sheet(side, report, &mut ends, &mut weights, sheet)
+    returned(report_sheet(side, report, &mut ends, &mut weights, sheet))
 }

@@ -3,6 +3,4 @@ use Rattle.monitor.proofs.ListLaws.{list_promised}
 use Rattle.monitor.proofs.list.wcut_list.Goals as goal
 
 pub returns : goal.returns
-returns c =
-    let a = c.args in
-    list_promised a.sheet.now a.sides.now c.list_sheet.ensures
+returns c = rw c.returned.ensures (list_promised c.args.sheet.now c.args.sides.now c.list_sheet.ensures)
