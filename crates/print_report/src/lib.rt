@@ -22,7 +22,7 @@ use write_areas::{NO_SECOND, Report};
 // No output has more bytes: line 1 takes 75 with each field at its largest, line 2 with all 256 nodes 919.
 pub const MOST_OUTPUT: usize = 994;
 
-// The report that stands in a report area.
+// The report that stands in a report area. A function and no `From`, which would have to stand in the crate of the struct.
 fn read_report(area: &[u8; REPORT_LENGTH]) -> Report
     ensures { values_of result ≡ fields (report_widths current) area.now }
 {
