@@ -48,10 +48,11 @@ fn mark_row(
     if figures.singles[u] <= limit {
         set_bit(table, cell(own, own));
     }
-    let mut from = u + 1;
-    while let Some(v) = figures.next_light(nodes, stops, u, from, limit) {
+    // Where the loop keeps a number to go on from in place of the next column, each pair takes one instruction more.
+    let mut next = figures.next_light(nodes, stops, u, u + 1, limit);
+    while let Some(v) = next {
         set_bit(table, cell(own, rank[v]));
-        from = v + 1;
+        next = figures.next_light(nodes, stops, u, v + 1, limit);
     }
 }
 

@@ -1,6 +1,7 @@
--- A loop over the rows, from the last place down: what it keeps at its start, and with each row, beside what it has of the rows so far.
+-- A loop over the rows, from the last place down: what it keeps at its start, and with each row, beside what it has of the rows so far. And how
+-- many columns of a row are left from the next one on.
 -- Assumes nothing.
-use Rattle.std.proofs.Common.{◌≡◌, ℕ, suc, ◌+◌, ◌<◌, List, sym, ◌∙◌, subst, add-one, arith}
+use Rattle.std.proofs.Common.{◌≡◌, ℕ, suc, ◌+◌, ◌<◌, List, sym, ◌∙◌, subst, add-one, arith, ◌-◌, Option, Some, None}
 use Rattle.cuts.specs.Network.{Network, Tree}
 use Rattle.arrays.specs.Lists.{entry}
 use Rattle.arrays.specs.ByNode.{Degrees}
@@ -12,6 +13,10 @@ use Rattle.tree_rows.specs.Making.{TreeHeld, RowsHeld}
 use Rattle.tree_rows.specs.Reading.{RowHeld}
 use Rattle.tree_rows.proofs.DegreeLaws.{place-degrees}
 use Rattle.tree_rows.proofs.RowLaws.{row_end}
+
+abbrev pub columns_left : ℕ → Option ℕ → ℕ
+columns_left nodes (Some v) = nodes - v
+columns_left nodes None = 0
 
 module _ {net : Network} {t : Tree} {links : Links} {index : Index} {p : Places} {nodes : ℕ} where
   pub rows_start : (degrees : List ℕ) {figures : Figures} → TreeHeld net t links index p nodes → Degrees net degrees

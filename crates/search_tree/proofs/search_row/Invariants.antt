@@ -1,19 +1,15 @@
 -- `search_tree::search_row` meets its contract. The loop's invariant: what is found is the first of what was reached up to the next column, or
 -- of the whole row where there is none.
 -- Assumes nothing.
-use Rattle.std.proofs.Common.{◌≡◌, ℕ, ◌+◌, ◌-◌, ◌<◌, ◌≤◌, List, Option, Some, None, MatchOption}
+use Rattle.std.proofs.Common.{◌≡◌, ℕ, ◌+◌, ◌<◌, ◌≤◌, List, MatchOption}
 use Rattle.cuts.specs.Network.{Network, Tree}
 use Rattle.cuts.specs.Candidate.{Candidate, fewer_nodes, ahead}
 use Rattle.tree_rows.specs.declared.Figures.{Figures}
+use Rattle.tree_rows.proofs.LoopLaws.{columns_left}
 use Rattle.tree_rows.specs.Reading.{RowHeld}
 use Rattle.search_order.specs.declared.Found.{Found}
 use Rattle.search_order.specs.Visits.{Reached}
 use Rattle.search_tree.proofs.search_row.Given as goal
-
--- the columns from the next on
-abbrev pub columns_left : ℕ → Option ℕ → ℕ
-columns_left nodes (Some v) = nodes - v
-columns_left nodes None = 0
 
 -- where `before` was found in the rows behind u, `best` is the first of what was reached in row u up to the column v
 abbrev pub UpTo : Figures → ℕ → List ℕ → List ℕ → ℕ → ℕ → Found → Found → ℕ → Type 0
