@@ -2,7 +2,7 @@
 ghost use Rattle.sheet.specs.Sheet.{current};
 ghost use Rattle.thickness.specs.ThicknessTold.{ThicknessTold};
 
-use format::limits::MOST_LINKS;
+use arrays::Links;
 use format::refusals::returned;
 use op_thickness::sheet_thickness;
 
@@ -11,14 +11,6 @@ use op_thickness::sheet_thickness;
 pub fn wcut_thickness(sheet: &[u8], link: u32, wanted: u64, thickness: &mut u32) -> u32
     ensures { ThicknessTold current sheet.now link wanted thickness.new result }
 {
-    let mut ends = [[0u8; MOST_LINKS]; 2];
-    let mut weights = [0u32; MOST_LINKS];
-    returned(sheet_thickness(
-        thickness,
-        &mut ends,
-        &mut weights,
-        sheet,
-        link as usize,
-        wanted,
-    ))
+    let mut links = Links::empty();
+    returned(sheet_thickness(thickness, &mut links, sheet, link as usize, wanted))
 }

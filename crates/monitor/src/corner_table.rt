@@ -2,7 +2,7 @@
 ghost use Rattle.sheet.specs.Sheet.{current};
 ghost use Rattle.corners.specs.CornersTold.{table_read, CornersTold};
 
-use format::limits::MOST_LINKS;
+use arrays::Links;
 use format::refusals::returned;
 use op_corners::corner_sheet;
 
@@ -12,7 +12,6 @@ pub fn wcut_corners(sheet: &[u8], first: &[u8], second: &[u8], table: &mut [u64;
     ensures { CornersTold current sheet.now first.now second.now
         (table_read table.new) result }
 {
-    let mut ends = [[0u8; MOST_LINKS]; 2];
-    let mut weights = [0u32; MOST_LINKS];
-    returned(corner_sheet(table, &mut ends, &mut weights, sheet, first, second))
+    let mut links = Links::empty();
+    returned(corner_sheet(table, &mut links, sheet, first, second))
 }

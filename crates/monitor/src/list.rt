@@ -2,7 +2,7 @@
 ghost use Rattle.sheet.specs.Sheet.{current};
 ghost use Rattle.monitor.specs.ListEntry.{SidesListed};
 
-use format::limits::MOST_LINKS;
+use arrays::Links;
 use format::refusals::returned;
 use op_list::list_sheet;
 
@@ -12,7 +12,6 @@ pub fn wcut_list(sheet: &[u8], sides: &mut [u8], count: &mut u32) -> u32
     ensures { SidesListed current sheet.now
         sides.old sides.new count.new result }
 {
-    let mut ends = [[0u8; MOST_LINKS]; 2];
-    let mut weights = [0u32; MOST_LINKS];
-    returned(list_sheet(sides, count, &mut ends, &mut weights, sheet))
+    let mut links = Links::empty();
+    returned(list_sheet(sides, count, &mut links, sheet))
 }

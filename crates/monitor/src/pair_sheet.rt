@@ -2,7 +2,7 @@
 ghost use Rattle.sheet.specs.Sheet.{current};
 ghost use Rattle.pairs.specs.PairsWritten.{PairsWritten};
 
-use format::limits::MOST_LINKS;
+use arrays::Links;
 use format::refusals::returned;
 use op_pairs::pair_sheet;
 
@@ -12,7 +12,6 @@ pub fn wcut_pairs(sheet: &[u8], tree: u32, weights: &mut [u64]) -> u32
     ensures { PairsWritten current sheet.now tree
         weights.old weights.new result }
 {
-    let mut ends = [[0u8; MOST_LINKS]; 2];
-    let mut link_weights = [0u32; MOST_LINKS];
-    returned(pair_sheet(weights, &mut ends, &mut link_weights, sheet, tree as usize))
+    let mut links = Links::empty();
+    returned(pair_sheet(weights, &mut links, sheet, tree as usize))
 }

@@ -2,7 +2,8 @@
 ghost use Rattle.sheet.specs.Sheet.{current};
 ghost use Rattle.monitor.specs.Entry.{Reported};
 
-use format::limits::{MOST_LINKS, REPORT_LENGTH, SIDE_LENGTH};
+use arrays::Links;
+use format::limits::{REPORT_LENGTH, SIDE_LENGTH};
 use format::refusals::{Refusal, returned};
 use op_report::report_sheet;
 
@@ -18,7 +19,6 @@ pub fn wcut_report(sheet: &[u8], side: &mut [u8], report: &mut [u8]) -> u32
     if report.len() < REPORT_LENGTH {
         return u32::from(Refusal::ShortReport);
     }
-    let mut ends = [[0u8; MOST_LINKS]; 2];
-    let mut weights = [0u32; MOST_LINKS];
-    returned(report_sheet(side, report, &mut ends, &mut weights, sheet))
+    let mut links = Links::empty();
+    returned(report_sheet(side, report, &mut links, sheet))
 }

@@ -13,9 +13,8 @@ use Rattle.sheet.specs.Bytes.{Bytes}
 use Rattle.sheet.specs.Reading.{check, first_failing, Reading, accepted, refused, number_of}
 use Rattle.sheet.specs.Sheet.{current, network, decode}
 use Rattle.sheet.specs.Areas.{side_length, side_read}
-use Rattle.sheet.proofs.Acceptance.{decode-accepted}
-use Rattle.arrays.specs.Records.{network_at}
-use Rattle.arrays.specs.declared.Layout.{Layout}
+use Rattle.arrays.specs.Sheets.{network_of}
+use Rattle.arrays.specs.declared.sheets.Sheet.{Sheet}
 use Rattle.corners.specs.Corners.{corner_table, corner_weight, Four}
 use Rattle.corners.specs.CornersTold.{no_side, sides_there, corner_reading, no_table, table_left, table_read, CornersTold}
 use Rattle.corners.proofs.CornerLaws.{corner_table-four}
@@ -89,22 +88,22 @@ module _ (sheet first second : Bytes) where
         let r = corner_reading-refused current sheet first second long.first_long long.second_long n e in
         corners-told current sheet first second (sym (ap number_of r)) (zeros-read ∙ sym (ap (table_left first second) r))
 
-    module _ (ends : List (List ℕ)) (ws : List ℕ) (l : Layout) (read : decode current sheet ≡ accepted (network_at sheet ends ws l) []) where
-      -- the network that was read has nodes and links as a sheet gives them
-      pub fillable : Fillable first second (bare_network l ends ws)
-      fillable =
-          let a = decode-accepted current sheet (network_at sheet ends ws l) [] read in
-          let k = a.sound.linked in
-          record {
-            long = long;
-            few_nodes = a.nodes_most;
-            linked = record { rooted = k.rooted; first_in = k.first_in; second_in = k.second_in };
-            light = record { few = a.links_most; small = λ i b. let w = a.weights_most i b in omega arith };
-          }
-
-      pub sides_decide : {t : List (List ℕ)} {n : ℕ} → TableLeft first second (sides_there first second (bare_network l ends ws) []) t n → CornersTold current sheet first second t n
+    module _ (net : Network) (read : decode current sheet ≡ accepted net []) where
+      pub sides_decide : {t : List (List ℕ)} {m : ℕ} → TableLeft first second (sides_there first second (network net.nodes net.links []) []) t m
+          → CornersTold current sheet first second t m
       sides_decide w =
-          let net : Network = network_at sheet ends ws l in
           let e = corner_reading-accepted current sheet first second long.first_long long.second_long net [] read in
           let v = any_trees first second net.nodes net.links [] net.trees w in
           corners-told current sheet first second (v.number ∙ sym (ap number_of e)) (v.table_is ∙ sym (ap (table_left first second) e))
+
+-- a sheet's network has nodes and links as a table asks
+pub fillable : (first second : Bytes) (n : Sheet) → MapsLong first second → Fillable first second (bare_network n)
+fillable first second n long =
+    let a = n.held.accepted in
+    let k = a.sound.linked in
+    record {
+      long = long;
+      few_nodes = a.nodes_most;
+      linked = record { rooted = k.rooted; first_in = k.first_in; second_in = k.second_in };
+      light = record { few = a.links_most; small = λ i b. let w = a.weights_most i b in omega arith };
+    }

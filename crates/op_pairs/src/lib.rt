@@ -7,19 +7,18 @@ ghost use Rattle.sheet.specs.Sheet.{current};
 ghost use Rattle.pairs.specs.Slots.{row_start};
 ghost use Rattle.pairs.specs.PairsWritten.{pairs_fitting, PairsWritten};
 ghost use Rattle.format.specs.Refusals.{returned};
-ghost use Rattle.arrays.specs.Links.{LinkArrays};
-ghost use Rattle.arrays.specs.Records.{network_at, SheetHeld};
+ghost use Rattle.arrays.specs.Sheets.{network_of};
 ghost use Rattle.pair_rows.specs.Writing.{PairsLeft};
 ghost use Rattle.op_pairs.specs.Areas.{NodesCounted, TreeWritable, AreaLeft};
 
-use arrays::Layout;
-use by_node::{LISTS, index_links};
-use format::limits::{MOST_LINKS, MOST_NODES};
+use arrays::listed_sheets::ListedSheet;
+use arrays::sheets::Sheet;
+use arrays::{Index, Links};
 use format::refusals::Refusal;
 use pair_rows::write_pairs;
 use read_sheet::read_sheet;
 use row_starts::row_start;
-use sheet_trees::rank_record;
+use sheet_trees::{index_sheet, rank_record};
 
 // How many pairs a tree of so many nodes has: those of all rows before its last rank's, and one for each rank below that.
 fn pair_count(nodes: usize) -> usize
@@ -30,63 +29,50 @@ fn pair_count(nodes: usize) -> usize
     row_start(last) as usize + last
 }
 
-// Writes the weights of all pairs of a tree of the network that was read from the sheet into the arrays.
-fn write_tree(
-    area: &mut [u64],
-    s: &[u8],
-    l: Layout,
-    ends: &[[u8; MOST_LINKS]; 2],
-    weights: &[u32; MOST_LINKS],
-    tree: usize,
-)
-    requires { TreeWritable area.old s.now ends.now weights.now l tree }
-    ensures { PairsLeft (network_at s.now ends.now weights.now l)
-        (tree_at (network_at s.now ends.now weights.now l) tree)
-        area.old area.new }
+// Writes the weights of all pairs of a tree of a sheet that was read.
+fn write_tree(area: &mut [u64], n: &Sheet, tree: usize)
+    requires { TreeWritable area.old n.now tree }
+    ensures { PairsLeft (network_of n.now) (tree_at (network_of n.now) tree) area.old area.new }
 {
-    let mut lists = [0u16; LISTS];
-    let mut degrees = [0u64; MOST_NODES];
-    index_links(&mut lists, &mut degrees, l.nodes, l.links, ends, weights);
-    let r = rank_record(s, l, tree, ends);
-    write_pairs(area, l.nodes, ends, weights, &lists, &degrees, r);
+    let mut index = Index::empty();
+    index_sheet(&mut index, n);
+    let listed = ListedSheet {
+        sheet: *n,
+        index: &index,
+    };
+    write_pairs(area, &listed, &rank_record(n, tree));
 }
 
-// The same, if the network has the tree and the area has room for all its pairs.
-fn pair_network(
-    area: &mut [u64],
-    s: &[u8],
-    l: Layout,
-    ends: &[[u8; MOST_LINKS]; 2],
-    weights: &[u32; MOST_LINKS],
-    tree: usize,
-) -> Result<(), Refusal>
-    requires { SheetHeld current s.now ends.now weights.now l }
-    ensures { AreaLeft tree (pairs_fitting tree area.old
-        (network_at s.now ends.now weights.now l) [])
+// The same, if the sheet has the tree and the area has room for all its pairs.
+fn pair_network(area: &mut [u64], n: &Sheet, tree: usize) -> Result<(), Refusal>
+    ensures { AreaLeft tree (pairs_fitting tree area.old (network_of n.now) [])
         area.old area.new (returned result) }
 {
-    if tree >= l.trees {
+    if tree >= n.layout.trees {
         return Err(Refusal::NoTree);
     }
-    if area.len() < pair_count(l.nodes) {
+    if area.len() < pair_count(n.layout.nodes) {
         return Err(Refusal::ShortPairs);
     }
-    write_tree(area, s, l, ends, weights, tree);
+    write_tree(area, n, tree);
     Ok(())
 }
 
-// Reads a sheet, in work arrays that are lent, and writes the weights of all pairs of a tree's links, each at its slot; or answers the first
+// Reads a sheet, into links that are lent, and writes the weights of all pairs of a tree's links, each at its slot; or answers the first
 // refusal and leaves the area as it was.
 pub fn pair_sheet(
     area: &mut [u64],
-    ends: &mut [[u8; MOST_LINKS]; 2],
-    weights: &mut [u32; MOST_LINKS],
+    links: &mut Links,
     sheet: &[u8],
     tree: usize,
 ) -> Result<(), Refusal>
-    requires { LinkArrays ends.old weights.old }
     ensures { PairsWritten current sheet.now tree area.old area.new (returned result) }
 {
-    let l = read_sheet(ends, weights, sheet)?;
-    pair_network(area, sheet, l, ends, weights, tree)
+    let layout = read_sheet(links, sheet)?;
+    let n = Sheet {
+        bytes: sheet,
+        layout,
+        links,
+    };
+    pair_network(area, &n, tree)
 }

@@ -1,7 +1,5 @@
 -- What a report leaves in the two areas. Assumes nothing.
 --   Room side report                   both areas have room for what is written
---   Lent side report ends ws           so they have, and the arrays have room for all links
---   Writable side report s ends ws l   so they have, and the sheet s and the arrays hold a network, laid out as l says
 --   AreasWritten r ..                  the areas hold the answer that the struct r says
 --   AnswerWritten net ..               they hold the answer of the network
 --   SheetReported f ..                 the number is the sheet's, and the areas hold what its reading leaves there
@@ -12,23 +10,12 @@ use Rattle.sheet.specs.Bytes.{Bytes}
 use Rattle.sheet.specs.Reading.{number_of}
 use Rattle.sheet.specs.Sheet.{Format, current, decode}
 use Rattle.sheet.specs.Areas.{side_length, side_bytes, report_length, report_bytes, written, side_after, report_after, side_left, report_left}
-use Rattle.arrays.specs.Links.{LinkArrays}
-use Rattle.arrays.specs.Records.{SheetHeld}
-use Rattle.arrays.specs.declared.Layout.{Layout}
 use Rattle.search_answer.specs.Answered.{AnswerSays}
 use Rattle.search_answer.specs.declared.Answer as struct
 
 pub record Room (side report : Bytes) : Type 0 where
   pub for_side : side_length ≤ length side
   pub for_report : report_length current ≤ length report
-
-pub record Lent (side report : Bytes) (ends : List (List ℕ)) (ws : List ℕ) : Type 0 where
-  pub room : Room side report
-  pub arrays : LinkArrays ends ws
-
-pub record Writable (side report s : Bytes) (ends : List (List ℕ)) (ws : List ℕ) (l : Layout) : Type 0 where
-  pub room : Room side report
-  pub held : SheetHeld current s ends ws l
 
 -- ---- afterwards
 

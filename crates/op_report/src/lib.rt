@@ -5,12 +5,12 @@ ghost use Rattle.std.specs.Prelude.{◌≡◌};
 ghost use Rattle.sheet.specs.Sheet.{current};
 ghost use Rattle.sheet.specs.Areas.{second_link};
 ghost use Rattle.format.specs.Refusals.{returned};
-ghost use Rattle.arrays.specs.Records.{network_at};
+ghost use Rattle.arrays.specs.Sheets.{network_of};
 ghost use Rattle.search_order.specs.Choice.{chosen};
-ghost use Rattle.op_report.specs.Reports.{Room, Lent, AreasWritten, Writable, AnswerWritten, SheetReported};
+ghost use Rattle.op_report.specs.Reports.{Room, AreasWritten, AnswerWritten, SheetReported};
 
-use arrays::Layout;
-use format::limits::MOST_LINKS;
+use arrays::Links;
+use arrays::sheets::Sheet;
 use format::refusals::Refusal;
 use read_sheet::read_sheet;
 use search_answer::{Answer, answer_sheet};
@@ -31,7 +31,7 @@ fn write_both(side: &mut [u8], report: &mut [u8], a: Answer)
     put_side(side, 0, a.best.side);
     let found = a.best.found;
     let fields = Report {
-        verdict: a.verdict,
+        verdict: u8::from(a.verdict),
         tree: found.tree,
         count: found.count,
         first: found.first,
@@ -42,37 +42,31 @@ fn write_both(side: &mut [u8], report: &mut [u8], a: Answer)
     write_report(report, fields);
 }
 
-// Writes the answer of the network that was read from the sheet into the arrays.
-fn write_answer(
-    side: &mut [u8],
-    report: &mut [u8],
-    s: &[u8],
-    l: Layout,
-    ends: &[[u8; MOST_LINKS]; 2],
-    weights: &[u32; MOST_LINKS],
-)
-    requires { Writable side.old report.old s.now ends.now weights.now l }
-    ensures { AnswerWritten
-        (network_at s.now ends.now weights.now l)
-        side.old report.old side.new report.new }
+// Writes the answer of a sheet that was read.
+fn write_answer(side: &mut [u8], report: &mut [u8], n: &Sheet)
+    requires { Room side.old report.old }
+    ensures { AnswerWritten (network_of n.now) side.old report.old side.new report.new }
 {
-    let a = answer_sheet(s, l, ends, weights);
-    write_both(side, report, a);
+    write_both(side, report, answer_sheet(n));
 }
 
-// Reads a sheet, in work arrays that are lent, and writes both areas; or answers the first refusal and leaves both as they were.
+// Reads a sheet, into links that are lent, and writes both areas; or answers the first refusal and leaves both as they were.
 pub fn report_sheet(
     side: &mut [u8],
     report: &mut [u8],
-    ends: &mut [[u8; MOST_LINKS]; 2],
-    weights: &mut [u32; MOST_LINKS],
+    links: &mut Links,
     sheet: &[u8],
 ) -> Result<(), Refusal>
-    requires { Lent side.old report.old ends.old weights.old }
+    requires { Room side.old report.old }
     ensures { SheetReported current sheet.now
         side.old report.old side.new report.new (returned result) }
 {
-    let l = read_sheet(ends, weights, sheet)?;
-    write_answer(side, report, sheet, l, ends, weights);
+    let layout = read_sheet(links, sheet)?;
+    let n = Sheet {
+        bytes: sheet,
+        layout,
+        links,
+    };
+    write_answer(side, report, &n);
     Ok(())
 }

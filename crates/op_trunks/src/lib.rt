@@ -5,6 +5,7 @@ ghost use Rattle.sheet.specs.Sheet.{current};
 ghost use Rattle.format.specs.Refusals.{returned};
 ghost use Rattle.op_trunks.specs.TrunksRead.{TrunksRead};
 
+use arrays::Links;
 use format::limits::{HEADER_LENGTH, MOST_LINKS};
 use format::refusals::Refusal;
 use read_links::trunks::trunk_numbers;
@@ -15,9 +16,8 @@ use read_sheet::read_sheet;
 pub fn read_trunks(numbers: &mut [u16; MOST_LINKS], sheet: &[u8]) -> Result<(), Refusal>
     ensures { TrunksRead current sheet.now numbers.old numbers.new (returned result) }
 {
-    let mut ends = [[0u8; MOST_LINKS]; 2];
-    let mut weights = [0u32; MOST_LINKS];
-    let l = read_sheet(&mut ends, &mut weights, sheet)?;
+    let mut links = Links::empty();
+    let l = read_sheet(&mut links, sheet)?;
     trunk_numbers(numbers, sheet, HEADER_LENGTH, l.links);
     Ok(())
 }

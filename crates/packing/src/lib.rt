@@ -92,7 +92,7 @@ pub fn floor_of(n: &Sheet, weight: u64) -> u64
 }
 
 // What is certified of the cut found.
-#[derive(Clone, Copy, PartialEq, Eq)]
+#[derive(Clone, Copy, Debug, PartialEq, Eq)]
 pub enum Verdict {
     // It is a lightest one of those that the trees show.
     TreesOnly = 1,
@@ -110,5 +110,13 @@ impl Verdict {
         } else {
             Verdict::TreesOnly
         }
+    }
+}
+
+impl From<Verdict> for u8 {
+    ghost from_gives = { λ verdict number. number ≡ verdict_number verdict };
+
+    fn from(verdict: Verdict) -> u8 {
+        verdict as u8
     }
 }

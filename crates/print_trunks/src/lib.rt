@@ -48,11 +48,9 @@ fn put_output(printer: &mut Printer, sheet: &[u8])
     ensures { PutIn most_output printer.old (output (trunks current sheet.now)) printer.new }
 {
     let mut numbers = [0u16; MOST_LINKS];
-    let number = read_trunks(&mut numbers, sheet);
-    if number == 0 {
-        link_lines(printer, &numbers[..two(sheet, 2)]);
-    } else {
-        refused_line(printer, number);
+    match read_trunks(&mut numbers, sheet) {
+        Ok(()) => link_lines(printer, &numbers[..two(sheet, 2)]),
+        Err(refusal) => refused_line(printer, u32::from(refusal)),
     }
 }
 

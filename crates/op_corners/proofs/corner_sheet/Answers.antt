@@ -1,9 +1,9 @@
 -- `op_corners::corner_sheet` meets its contract: the maps' lengths decide first, then what the sheet's reading says, and of a network that was
 -- read the sides. Assumes nothing.
 use Rattle.std.proofs.lemmas.Result.{err_from_is_err_and}
-use Rattle.read_sheet.proofs.NetworkLaws.{was_read, was_refused}
+use Rattle.read_sheet.proofs.NetworkLaws.{was_read, was_refused, sheet-held}
 use Rattle.op_corners.specs.Tables.{MapsLong}
-use Rattle.op_corners.proofs.LeftLaws.{first_short, second_short, sheet-refused, fillable, sides_decide}
+use Rattle.op_corners.proofs.LeftLaws.{first_short, second_short, sheet-refused, sides_decide}
 use Rattle.op_corners.proofs.corner_sheet.Goals as goal
 use Rattle.op_corners.proofs.corner_sheet.Goals.{Else-second-lt-SIDE_LENGTH, then-first-lt-SIDE_LENGTH-via-else-first-lt-SIDE_LENGTH+then-second-lt-SIDE_LENGTH, then-first-lt-SIDE_LENGTH-via-then-first-lt-SIDE_LENGTH}
 
@@ -21,22 +21,20 @@ returns-then-first-lt-SIDE_LENGTH c =
     ]
 
 pub corner_network-requires : goal.corner_network-requires
-corner_network-requires c =
-    let a = c.args in
-    let got = c.read_sheet.new in
-    fillable a.sheet.now a.first.now a.second.now (long (goal.at.corner_network-requires c).Else-second-lt-SIDE_LENGTH) got.ends got.weights c.in_ok-l.l
-    (was_read c.read_sheet.ensures c.in_ok-l.was)
+corner_network-requires c = long (goal.at.corner_network-requires c).Else-second-lt-SIDE_LENGTH
+
+pub invariant_of-n : goal.invariant_of-n
+invariant_of-n c = record { held = sheet-held c.read_sheet.ensures c.in_ok-layout.was }
 
 pub returns : goal.returns
 returns c =
     let a = c.args in
-    let got = c.read_sheet.new in
-    sides_decide a.sheet.now a.first.now a.second.now (long (goal.at.returns c).Else-second-lt-SIDE_LENGTH) got.ends got.weights c.in_ok-l.l
-    (was_read c.read_sheet.ensures c.in_ok-l.was) c.corner_network.ensures
+    sides_decide a.sheet.now a.first.now a.second.now (long (goal.at.returns c).Else-second-lt-SIDE_LENGTH) _
+    (was_read c.read_sheet.ensures c.in_ok-layout.was) c.corner_network.ensures
 
-pub returns-in_err-l : goal.returns-in_err-l
-returns-in_err-l c =
+pub returns-in_err-layout : goal.returns-in_err-layout
+returns-in_err-layout c =
     let a = c.args in
     let p = err_from_is_err_and c.from_residual.result c.from_residual.ensures.1 in
-    let both = long (goal.at.returns-in_err-l c).Else-second-lt-SIDE_LENGTH in
-    rw (p.1, p.2) (sheet-refused a.sheet.now a.first.now a.second.now both _ (was_refused c.read_sheet.ensures c.in_err-l.was))
+    let both = long (goal.at.returns-in_err-layout c).Else-second-lt-SIDE_LENGTH in
+    rw (p.1, p.2) (sheet-refused a.sheet.now a.first.now a.second.now both _ (was_refused c.read_sheet.ensures c.in_err-layout.was))

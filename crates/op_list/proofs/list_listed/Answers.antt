@@ -12,40 +12,42 @@ use Rattle.sheet.specs.Areas.{written}
 use Rattle.listing.specs.Listing.{listed}
 use Rattle.listing.specs.ListArea.{list_bytes, sides_left, count_left}
 use Rattle.listing.proofs.ListAreaLaws.{fitting-room, fitting-short}
-use Rattle.arrays.specs.Records.{network_at}
+use Rattle.arrays.specs.Sheets.{network_of}
 use Rattle.list_trees.specs.Sides.{AllCounted}
 use Rattle.list_trees.proofs.StartLaws.{counts-fit, slots-starts}
 use Rattle.op_list.proofs.list_listed.Goals as goal
-use Rattle.op_list.proofs.list_listed.Goals.{After-count_sides-total, Else-most-total}
+use Rattle.op_list.proofs.list_listed.Goals.{Else-most-total}
 
--- the area is as it was while the sides are counted
-unwritten : (c : After-count_sides-total) → c.args.sides.now ≡ c.args.sides.now
-unwritten c = refl
-
-counted : (c : Else-most-total) → AllCounted (network_at c.args.s.now c.args.ends.now c.args.weights.now c.args.l) c.count_sides-total.new.counts c.count_sides-total.new.news c.count_sides-total.result
+-- all sides are counted
+counted : (c : Else-most-total) → AllCounted (network_of c.args.n.now.sheet) c.count_sides-total.new.counts c.count_sides-total.new.news c.count_sides-total.result
 counted c = c.count_sides-total.ensures.sides_counted.within c.if-most-total.false
+
+pub count_sides-total-requires : goal.count_sides-total-requires
+count_sides-total-requires c = record { limit_is = c.requires; clear = refl }
 
 pub returns-then-most-total : goal.returns-then-most-total
 returns-then-most-total c =
     let old = c.args.sides.now in
     let more = c.count_sides-total.ensures.sides_counted.beyond c.if-most-total.true in
-    let e = fitting-short current old (network_at c.args.s.now c.args.ends.now c.args.weights.now c.args.l) [] (omega arith) in
-    record { number = sym (ap number_of e); count_is = sym (ap (count_left current) e); sides_is = unwritten (goal.at.returns-then-most-total c).After-count_sides-total ∙ sym (ap (sides_left current old) e) }
+    let e = fitting-short current old (network_of c.args.n.now.sheet) [] (omega arith) in
+    record { number = sym (ap number_of e); count_is = sym (ap (count_left current) e); sides_is = sym (ap (sides_left current old) e) }
 
 pub start_slots-requires : goal.start_slots-requires
-start_slots-requires c = counts-fit (network_at c.args.s.now c.args.ends.now c.args.weights.now c.args.l) c.requires.listed.held.accepted (counted (goal.at.start_slots-requires c).Else-most-total)
+start_slots-requires c =
+    let n = c.args.n.now.sheet in
+    counts-fit (network_of n) n.held.accepted (counted (goal.at.start_slots-requires c).Else-most-total)
 
 pub write_sides-requires : goal.write_sides-requires
 write_sides-requires c =
+    let n = c.args.n.now.sheet in
     let l = c.if-most-total.false in
-    let k = (counted (goal.at.write_sides-requires c).Else-most-total).total_is in
-    let same = ap (λ (bs : Bytes). length bs) (unwritten (goal.at.write_sides-requires c).After-count_sides-total) in
+    let all = counted (goal.at.write_sides-requires c).Else-most-total in
+    let k = all.total_is in
     record {
-      listed = c.requires.listed;
-      limit_is = c.requires.weight_is;
-      by_trees = (counted (goal.at.write_sides-requires c).Else-most-total).by_trees;
+      limit_is = c.requires;
+      by_trees = all.by_trees;
       all = c.start_slots.ensures.all;
-      starts = slots-starts (network_at c.args.s.now c.args.ends.now c.args.weights.now c.args.l) c.requires.listed.held.accepted (counted (goal.at.write_sides-requires c).Else-most-total) c.start_slots.ensures;
+      starts = slots-starts (network_of n) n.held.accepted all c.start_slots.ensures;
       room = omega arith;
     }
 
@@ -54,9 +56,9 @@ returns c =
     let old = c.args.sides.now in
     let l = c.if-most-total.false in
     let k = (counted (goal.at.returns c).Else-most-total).total_is in
-    let f = fitting-room current old (network_at c.args.s.now c.args.ends.now c.args.weights.now c.args.l) [] (omega arith) in
+    let f = fitting-room current old (network_of c.args.n.now.sheet) [] (omega arith) in
     record {
       number = sym (ap number_of f);
       count_is = k ∙ sym (ap (count_left current) f);
-      sides_is = c.write_sides.ensures ∙ ap (written (list_bytes (listed fewer_nodes (network_at c.args.s.now c.args.ends.now c.args.weights.now c.args.l)))) (unwritten (goal.at.returns c).After-count_sides-total) ∙ sym (ap (sides_left current old) f);
+      sides_is = c.write_sides.ensures ∙ sym (ap (sides_left current old) f);
     }

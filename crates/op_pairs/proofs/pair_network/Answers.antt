@@ -3,13 +3,13 @@ use native.Mathlib.Omega.{arith}
 use Rattle.op_pairs.proofs.StepLaws.{outside, short, enough}
 use Rattle.op_pairs.proofs.pair_network.Goals as goal
 
-pub returns-then-tree-l : goal.returns-then-tree-l
-returns-then-tree-l c = outside c.requires c.args.tree c.args.area.now c.if-tree-l.true
+pub returns-then-tree-n : goal.returns-then-tree-n
+returns-then-tree-n c = outside c.args.n.now c.args.tree c.args.area.now c.if-tree-n.true
 
 pub returns-then-area-pair_count : goal.returns-then-area-pair_count
 returns-then-area-pair_count c =
-    short c.requires c.args.tree c.args.area.now c.if-tree-l.false (omega (arith, c.pair_count.ensures, c.if-area-pair_count.true))
+    short c.args.n.now c.args.tree c.args.area.now c.if-tree-n.false (omega (arith, c.pair_count.ensures, c.if-area-pair_count.true))
 
 pub returns : goal.returns
 returns c =
-    enough c.requires c.args.tree c.args.area.now c.if-tree-l.false (omega (arith, c.pair_count.ensures, c.if-area-pair_count.false)) c.write_tree.ensures
+    enough c.args.n.now c.args.tree c.args.area.now c.if-tree-n.false (omega (arith, c.pair_count.ensures, c.if-area-pair_count.false)) c.write_tree.ensures

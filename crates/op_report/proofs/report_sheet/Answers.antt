@@ -3,6 +3,5 @@
 use Rattle.read_sheet.proofs.NetworkLaws.{sheet-held}
 use Rattle.op_report.proofs.report_sheet.Goals as goal
 
-pub write_answer-requires : goal.write_answer-requires
-write_answer-requires c =
-    record { room = c.requires.room; held = sheet-held c.read_sheet.ensures c.in_ok-l.was }
+pub invariant_of-n : goal.invariant_of-n
+invariant_of-n c = record { held = sheet-held c.read_sheet.ensures c.in_ok-layout.was }

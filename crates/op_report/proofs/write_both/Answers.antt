@@ -14,5 +14,5 @@ returns c =
       side_is = λ answer says. c.put_side.ensures answer.best.side says.best.side_is ∙ put_first answer.best.side a.side.now;
       report_is = λ answer says. c.write_report.ensures
           ∙ ap (λ (bs : Bytes). written bs a.report.now)
-          (report-fields a.a.best.found answer says.best.says current _ _ _ (sym says.verdict) c.second_link.ensures (sym says.floor));
+          (report-fields a.a.best.found answer says.best.says current _ _ _ (sym says.verdict ∙ sym c.from.ensures) c.second_link.ensures (sym says.floor));
     }

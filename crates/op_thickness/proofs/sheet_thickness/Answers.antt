@@ -6,15 +6,15 @@ use Rattle.op_thickness.proofs.StepLaws.{sheet-refused, sheet-read}
 use Rattle.op_thickness.proofs.sheet_thickness.Goals as goal
 
 pub network_thickness-requires : goal.network_thickness-requires
-network_thickness-requires c = sheet-held c.read_sheet.ensures c.in_ok-l.was
+network_thickness-requires c = sheet-held c.read_sheet.ensures c.in_ok-layout.was
 
 pub returns : goal.returns
 returns c =
     let a = c.args in
-    sheet-read a.sheet.now a.link a.wanted _ (was_read c.read_sheet.ensures c.in_ok-l.was) c.network_thickness.ensures
+    sheet-read a.sheet.now a.link a.wanted _ (was_read c.read_sheet.ensures c.in_ok-layout.was) c.network_thickness.ensures
 
-pub returns-in_err-l : goal.returns-in_err-l
-returns-in_err-l c =
+pub returns-in_err-layout : goal.returns-in_err-layout
+returns-in_err-layout c =
     let a = c.args in
     let p = err_from_is_err_and c.from_residual.result c.from_residual.ensures.1 in
-    rw (p.1, p.2) (sheet-refused a.sheet.now a.link a.wanted _ (was_refused c.read_sheet.ensures c.in_err-l.was))
+    rw (p.1, p.2) (sheet-refused a.sheet.now a.link a.wanted _ (was_refused c.read_sheet.ensures c.in_err-layout.was))

@@ -8,6 +8,7 @@ use Rattle.cuts.specs.Network.{Network, link_count}
 use Rattle.sheet.specs.Bytes.{Bytes}
 use Rattle.sheet.specs.Reading.{accepted}
 use Rattle.sheet.specs.Sheet.{current, decode}
+use Rattle.arrays.specs.Links.{ends_of}
 use Rattle.arrays.specs.Records.{network_at}
 use Rattle.read_sheet.proofs.NetworkLaws.{was_read, was_refused, sheet-held, network_at-links}
 use Rattle.op_trunks.proofs.NumberLaws.{links-there, header_links, numbers_read, numbers_refused}
@@ -20,7 +21,7 @@ module _ (c : In_ok-l) where
   sheet = c.args.sheet.now
 
   abbrev net : Network
-  net = let got = c.read_sheet.new in network_at sheet got.ends got.weights c.in_ok-l.l
+  net = let links = c.read_sheet.new.links in network_at sheet (ends_of links) links.weights c.in_ok-l.l
 
   accepts : decode current sheet ≡ accepted net []
   accepts = was_read c.read_sheet.ensures c.in_ok-l.was

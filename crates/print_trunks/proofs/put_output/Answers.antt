@@ -1,8 +1,8 @@
--- `print_trunks::put_output` meets its contract: where the crew's reader returns 0 the area has the trunk numbers of the links that the
--- header counts, and where it returns another number that is the sheet's refusal. Assumes nothing.
+-- `print_trunks::put_output` meets its contract: where the crew's reader refuses nothing the area has the trunk numbers of the links
+-- that the header counts, and its refusal is the sheet's. Assumes nothing.
 use Prim.Native.Nat.{◌≤◌}
 use native.Mathlib.Omega.{arith}
-use mathlib.Core.Path.{◌≡◌, sym}
+use mathlib.Core.Path.{◌≡◌, refl, sym}
 use lib.ListN.{length, take}
 use lib.Seq.{length-take-le}
 use Rattle.cuts.specs.Limits.{most_links}
@@ -16,14 +16,14 @@ use Rattle.print_trunks.proofs.put_output.Goals.{After-two}
 module _ (c : After-two) where
   few_links : c.two.result ≤ most_links
   few_links =
-      omega (arith, (accepted-output current c.args.sheet.now c.read_trunks-number.ensures c.if-number-eq0.true).1, c.two.ensures.same)
+      omega (arith, (accepted-output current c.args.sheet.now c.in-Ok.ensures refl).1, c.two.ensures.same)
 
-  there : length (take c.two.result c.read_trunks-number.new.numbers) ≡ c.two.result
-  there = length-take-le c.two.result c.read_trunks-number.new.numbers (omega (arith, few_links, c.read_trunks-number.array_long))
+  there : length (take c.two.result c.read_trunks.new.numbers) ≡ c.two.result
+  there = length-take-le c.two.result c.read_trunks.new.numbers (omega (arith, few_links, c.read_trunks.array_long))
 
 pub two-requires : goal.two-requires
 two-requires c =
-    omega (arith, (accepted-output current c.args.sheet.now c.read_trunks-number.ensures c.if-number-eq0.true).0)
+    omega (arith, (accepted-output current c.args.sheet.now c.in-Ok.ensures refl).0)
 
 pub slice_bounds-numbers-end : goal.slice_bounds-numbers-end
 slice_bounds-numbers-end c = omega (arith, few_links (goal.at.slice_bounds-numbers-end c).After-two)
@@ -36,8 +36,8 @@ link_lines-requires c =
     let at_two = (goal.at.link_lines-requires c).After-two in
     record { room = c.requires; few = omega (arith, there at_two, few_links at_two) }
 
-pub returns-then-number-eq0 : goal.returns-then-number-eq0
-returns-then-number-eq0 c =
-    let e = (accepted-output current c.args.sheet.now c.read_trunks-number.ensures c.if-number-eq0.true).2 in
+pub returns-in-Ok : goal.returns-in-Ok
+returns-in-Ok c =
+    let e = (accepted-output current c.args.sheet.now c.in-Ok.ensures refl).2 in
     let w = rw c.two.ensures.same at c.link_lines.ensures in
     put_in w e (omega arith)
