@@ -1,4 +1,4 @@
-// Document 01's limits of a sheet, and the lengths of its parts and of the areas.
+// The limits of a sheet, and the lengths of its parts and of the areas.
 
 pub const HEADER_LENGTH: usize = 5;
 
