@@ -13,7 +13,6 @@ use Rattle.sheet.specs.Bytes.{Bytes}
 use Rattle.sheet.specs.Reading.{check, first_failing, Reading, accepted, refused, number_of}
 use Rattle.sheet.specs.Sheet.{current, network, decode}
 use Rattle.sheet.specs.Areas.{side_length, side_read}
-use Rattle.arrays.specs.Sheets.{network_of}
 use Rattle.arrays.specs.declared.sheets.Sheet.{Sheet}
 use Rattle.corners.specs.Corners.{corner_table, corner_weight, Four}
 use Rattle.corners.specs.CornersTold.{no_side, sides_there, corner_reading, no_table, table_left, table_read, CornersTold}

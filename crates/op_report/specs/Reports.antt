@@ -3,7 +3,7 @@
 --   AreasWritten r ..                  the areas hold the answer that the struct r says
 --   AnswerWritten net ..               they hold the answer of the network
 --   SheetReported f ..                 the number is the sheet's, and the areas hold what its reading leaves there
-use Rattle.std.specs.Prelude.{ℕ, ◌≤◌, ◌≡◌, List, length}
+use Rattle.std.specs.Prelude.{ℕ, ◌≤◌, ◌≡◌, length}
 use Rattle.cuts.specs.Network.{Network}
 use Rattle.cuts.specs.Answer.{Answer}
 use Rattle.sheet.specs.Bytes.{Bytes}

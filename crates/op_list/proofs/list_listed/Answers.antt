@@ -1,16 +1,11 @@
 -- `op_list::list_listed` meets its contract: the sides are counted, all of them where the area has room for them, and then they are written.
 -- Assumes nothing.
-use mathlib.Core.Path.{◌≡◌, refl, sym, ap, ◌∙◌}
+use mathlib.Core.Path.{refl, sym, ap, ◌∙◌}
 use mathlib.Core.List.{[]}
 use native.Mathlib.Omega.{arith}
-use lib.ListN.{length}
-use Rattle.cuts.specs.Candidate.{fewer_nodes}
-use Rattle.sheet.specs.Bytes.{Bytes}
 use Rattle.sheet.specs.Reading.{number_of}
 use Rattle.sheet.specs.Sheet.{current}
-use Rattle.sheet.specs.Areas.{written}
-use Rattle.listing.specs.Listing.{listed}
-use Rattle.listing.specs.ListArea.{list_bytes, sides_left, count_left}
+use Rattle.listing.specs.ListArea.{sides_left, count_left}
 use Rattle.listing.proofs.ListAreaLaws.{fitting-room, fitting-short}
 use Rattle.arrays.specs.Sheets.{network_of}
 use Rattle.list_trees.specs.Sides.{AllCounted}
