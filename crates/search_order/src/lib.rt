@@ -7,7 +7,7 @@ ghost use Rattle.cuts.specs.Candidate.{fewer_nodes, ahead};
 ghost use Rattle.search_order.specs.Choice.{rest, comes_first, chosen, Says, said, Paired, unfound};
 
 // More than any candidate weighs.
-pub const NO_WEIGHT: u64 = 18446744073709551615;
+pub const NO_WEIGHT: u64 = u64::MAX;
 
 // A candidate: the tree, its one or two links, which are equal where there is one, the weight and the number of nodes in the side.
 #[derive(Clone, Copy)]
@@ -24,12 +24,13 @@ fn rest_of(first: u16, second: u16) -> u32
     ensures { result ≡ rest (chosen first second) }
 {
     if first == second {
-        return 0;
+        0
+    } else {
+        second as u32 + 1
     }
-    second as u32 + 1
 }
 
-// Whether `a` comes before `b`.
+// Whether `a` comes before `b`. Number by number: with two tuples compared, a search of many candidates of one weight takes a third longer.
 pub fn comes_first(a: Found, b: Found) -> bool
     ensures { result ≡ comes_first (ahead fewer_nodes) (said a) (said b) }
 {
@@ -52,21 +53,12 @@ pub fn comes_first(a: Found, b: Found) -> bool
 pub fn pair_of(tree: u8, a: u16, b: u16, weight: u64, count: u16) -> Found
     ensures { Paired tree a b weight count result }
 {
-    if a < b {
-        return Found {
-            tree: tree,
-            first: a,
-            second: b,
-            weight: weight,
-            count: count,
-        };
-    }
     Found {
-        tree: tree,
-        first: b,
-        second: a,
-        weight: weight,
-        count: count,
+        tree,
+        first: a.min(b),
+        second: a.max(b),
+        weight,
+        count,
     }
 }
 
