@@ -4,7 +4,6 @@ use Rattle.pairs.specs.Slots.{row_starts}
 use Rattle.pairs.proofs.SlotLaws.{row_starts-at}
 use Rattle.row_starts.proofs.row_start.Goals as goal
 
--- src/lib.rt:265:1
 pub returns : goal.returns
 unfolding row_starts
 returns c = row_starts-at c.args.rank (search rules)
