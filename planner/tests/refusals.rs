@@ -1,4 +1,4 @@
-//! The refusal numbers, their constants and their words: the table of docs/REFUSALS.md, include/wcut.h, the constants of the proved code
+//! The refusal numbers, their constants and their words: the table of docs/REFUSALS.md, include/wcut.h, the enum of the proved code
 //! and what the command `network` prints agree.
 
 mod command;
@@ -66,19 +66,28 @@ fn defined(line: &str) -> Refusal {
     Refusal { number: number.parse().expect(line), constant: constant.to_string(), case }
 }
 
-/// The constants of the code, each with the comment above it. There is none for 11, which is never given.
+/// The variants of the code's enum, each with the comment above it. There is none for 11, which is never given.
 fn code() -> Vec<Refusal> {
-    let (_, constants) = CODE.split_once("\n\n").expect("a comment on the file first");
-    constants.split("\n\n").map(commented).collect()
+    let (_, rest) = CODE.split_once("pub enum Refusal {\n").expect("an enum of the refusals");
+    let (variants, _) = rest.split_once("\n}").expect("the end of the enum");
+    variants.split("\n\n").map(commented).collect()
 }
 
 fn commented(lines: &str) -> Refusal {
-    let (comment, constant) = lines.trim_end().split_once('\n').expect(lines);
+    let (comment, variant) = lines.trim().split_once('\n').expect(lines);
     let words = comment.strip_prefix("// ").and_then(|rest| rest.strip_suffix('.')).expect(lines);
     let (first, rest) = words.split_at(1);
-    let (name, number) = constant.strip_prefix("pub const ").and_then(|rest| rest.split_once(": u32 = ")).expect(lines);
-    let number = number.strip_suffix(';').expect(lines).parse().expect(lines);
-    Refusal { number, constant: format!("WCUT_{name}"), case: first.to_lowercase() + rest }
+    let (name, number) = variant.trim().split_once(" = ").expect(lines);
+    let number = number.strip_suffix(',').expect(lines).parse().expect(lines);
+    Refusal { number, constant: constant(name), case: first.to_lowercase() + rest }
+}
+
+/// The name in C of a variant: `ShortSide` is `WCUT_SHORT_SIDE`.
+fn constant(variant: &str) -> String {
+    variant.chars().fold("WCUT".to_string(), |name, letter| match letter {
+        'A'..='Z' => format!("{name}_{letter}"),
+        _ => format!("{name}{}", letter.to_ascii_uppercase()),
+    })
 }
 
 /// A sheet for each of the other numbers.
