@@ -21,7 +21,8 @@ pub struct Layout {
     pub records: usize,
 }
 
-// The links of a network, by number: the first and the second end of each, and its weight.
+// The links of a network, by number: the first and the second end of each, and its weight. Three arrays and no array of structs, which would take
+// 16,384 bytes in place of 12,288.
 #[derive(Drop)]
 pub struct Links {
     pub firsts: [u8; MOST_LINKS],
@@ -29,16 +30,12 @@ pub struct Links {
     pub weights: [u32; MOST_LINKS],
 }
 
-impl Links {
-    // Ones to be read.
-    pub fn empty() -> Links {
-        Links {
-            firsts: [0; MOST_LINKS],
-            seconds: [0; MOST_LINKS],
-            weights: [0; MOST_LINKS],
-        }
-    }
-}
+// Links of which none is read yet.
+pub const NO_LINKS: Links = Links {
+    firsts: [0; MOST_LINKS],
+    seconds: [0; MOST_LINKS],
+    weights: [0; MOST_LINKS],
+};
 
 // The links of a network by node: those of node x are the ones in `runs` from starts[x] up to, not including, starts[x + 1]; and the weight of
 // each node's links.
@@ -49,13 +46,9 @@ pub struct Index {
     pub degrees: [u64; MOST_NODES],
 }
 
-impl Index {
-    // One to be filled.
-    pub fn empty() -> Index {
-        Index {
-            starts: [0; STARTS],
-            runs: [0; RUNS],
-            degrees: [0; MOST_NODES],
-        }
-    }
-}
+// An index of which nothing is made yet.
+pub const NO_INDEX: Index = Index {
+    starts: [0; STARTS],
+    runs: [0; RUNS],
+    degrees: [0; MOST_NODES],
+};

@@ -2,7 +2,7 @@
 ghost use Rattle.sheet.specs.Sheet.{current};
 ghost use Rattle.thickness.specs.ThicknessTold.{ThicknessTold};
 
-use arrays::Links;
+use arrays::NO_LINKS;
 use format::refusals::returned;
 use op_thickness::sheet_thickness;
 
@@ -11,6 +11,6 @@ use op_thickness::sheet_thickness;
 pub fn wcut_thickness(sheet: &[u8], link: u32, wanted: u64, thickness: &mut u32) -> u32
     ensures { ThicknessTold current sheet.now link wanted thickness.new result }
 {
-    let mut links = Links::empty();
+    let mut links = NO_LINKS;
     returned(sheet_thickness(thickness, &mut links, sheet, link as usize, wanted))
 }

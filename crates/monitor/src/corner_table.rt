@@ -2,7 +2,7 @@
 ghost use Rattle.sheet.specs.Sheet.{current};
 ghost use Rattle.corners.specs.CornersTold.{table_read, CornersTold};
 
-use arrays::Links;
+use arrays::NO_LINKS;
 use format::refusals::returned;
 use op_corners::corner_sheet;
 
@@ -12,6 +12,6 @@ pub fn wcut_corners(sheet: &[u8], first: &[u8], second: &[u8], table: &mut [u64;
     ensures { CornersTold current sheet.now first.now second.now
         (table_read table.new) result }
 {
-    let mut links = Links::empty();
+    let mut links = NO_LINKS;
     returned(corner_sheet(table, &mut links, sheet, first, second))
 }

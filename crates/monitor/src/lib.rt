@@ -1,4 +1,4 @@
-// The entries that firmware calls, a module for each.
+// The entries that firmware calls, a module for each. Each returns a number, as the C interface has it.
 #![tactic(auto)]
 
 pub mod cable; // wcut_thickness

@@ -2,7 +2,7 @@
 ghost use Rattle.sheet.specs.Sheet.{current};
 ghost use Rattle.monitor.specs.ListEntry.{SidesListed};
 
-use arrays::Links;
+use arrays::NO_LINKS;
 use format::refusals::returned;
 use op_list::list_sheet;
 
@@ -12,6 +12,6 @@ pub fn wcut_list(sheet: &[u8], sides: &mut [u8], count: &mut u32) -> u32
     ensures { SidesListed current sheet.now
         sides.old sides.new count.new result }
 {
-    let mut links = Links::empty();
+    let mut links = NO_LINKS;
     returned(list_sheet(sides, count, &mut links, sheet))
 }

@@ -2,7 +2,7 @@
 ghost use Rattle.sheet.specs.Sheet.{current};
 ghost use Rattle.pairs.specs.PairsWritten.{PairsWritten};
 
-use arrays::Links;
+use arrays::NO_LINKS;
 use format::refusals::returned;
 use op_pairs::pair_sheet;
 
@@ -12,6 +12,6 @@ pub fn wcut_pairs(sheet: &[u8], tree: u32, weights: &mut [u64]) -> u32
     ensures { PairsWritten current sheet.now tree
         weights.old weights.new result }
 {
-    let mut links = Links::empty();
+    let mut links = NO_LINKS;
     returned(pair_sheet(weights, &mut links, sheet, tree as usize))
 }

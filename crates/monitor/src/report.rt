@@ -2,7 +2,7 @@
 ghost use Rattle.sheet.specs.Sheet.{current};
 ghost use Rattle.monitor.specs.Entry.{Reported};
 
-use arrays::Links;
+use arrays::NO_LINKS;
 use format::limits::{REPORT_LENGTH, SIDE_LENGTH};
 use format::refusals::{Refusal, returned};
 use op_report::report_sheet;
@@ -19,6 +19,6 @@ pub fn wcut_report(sheet: &[u8], side: &mut [u8], report: &mut [u8]) -> u32
     if report.len() < REPORT_LENGTH {
         return u32::from(Refusal::ShortReport);
     }
-    let mut links = Links::empty();
+    let mut links = NO_LINKS;
     returned(report_sheet(side, report, &mut links, sheet))
 }

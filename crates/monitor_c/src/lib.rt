@@ -1,4 +1,5 @@
-// The archive that firmware links: each entry of `monitor` under its C name.
+// The archive that firmware links: each entry of `monitor` under its C name. A crate is an archive or a library that programs call, so that each
+// stands in both.
 #![tactic(auto)]
 
 ghost use Rattle.corners.specs.CornersTold.{table_read, CornersTold};

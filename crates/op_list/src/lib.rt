@@ -11,7 +11,7 @@ ghost use Rattle.op_list.specs.Lists.{ListLeft};
 
 use arrays::listed_sheets::ListedSheet;
 use arrays::sheets::Sheet;
-use arrays::{Index, Links};
+use arrays::{Links, NO_INDEX};
 use format::limits::{MOST_NODES, MOST_TREES, SIDE_LENGTH};
 use format::refusals::Refusal;
 use list_trees::{count_sides, start_slots, write_sides};
@@ -49,7 +49,7 @@ fn list_network(sides: &mut [u8], count: &mut u32, n: &Sheet) -> Result<(), Refu
     ensures { ListLeft current (fitting current sides.old (network_of n.now) [])
         sides.old sides.new count.new (returned result) }
 {
-    let mut index = Index::empty();
+    let mut index = NO_INDEX;
     index_sheet(&mut index, n);
     let listed = ListedSheet {
         sheet: *n,

@@ -13,7 +13,7 @@ ghost use Rattle.op_pairs.specs.Areas.{NodesCounted, TreeWritable, AreaLeft};
 
 use arrays::listed_sheets::ListedSheet;
 use arrays::sheets::Sheet;
-use arrays::{Index, Links};
+use arrays::{Links, NO_INDEX};
 use format::refusals::Refusal;
 use pair_rows::write_pairs;
 use read_sheet::read_sheet;
@@ -34,7 +34,7 @@ fn write_tree(area: &mut [u64], n: &Sheet, tree: usize)
     requires { TreeWritable area.old n.now tree }
     ensures { PairsLeft (network_of n.now) (tree_at (network_of n.now) tree) area.old area.new }
 {
-    let mut index = Index::empty();
+    let mut index = NO_INDEX;
     index_sheet(&mut index, n);
     let listed = ListedSheet {
         sheet: *n,

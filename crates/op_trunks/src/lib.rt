@@ -5,7 +5,7 @@ ghost use Rattle.sheet.specs.Sheet.{current};
 ghost use Rattle.format.specs.Refusals.{returned};
 ghost use Rattle.op_trunks.specs.TrunksRead.{TrunksRead};
 
-use arrays::Links;
+use arrays::NO_LINKS;
 use format::limits::{HEADER_LENGTH, MOST_LINKS};
 use format::refusals::Refusal;
 use read_links::trunks::trunk_numbers;
@@ -16,7 +16,7 @@ use read_sheet::read_sheet;
 pub fn read_trunks(numbers: &mut [u16; MOST_LINKS], sheet: &[u8]) -> Result<(), Refusal>
     ensures { TrunksRead current sheet.now numbers.old numbers.new (returned result) }
 {
-    let mut links = Links::empty();
+    let mut links = NO_LINKS;
     let l = read_sheet(&mut links, sheet)?;
     trunk_numbers(numbers, sheet, HEADER_LENGTH, l.links);
     Ok(())

@@ -70,7 +70,8 @@ fn two_or(s: &[u8], at: usize, bit: usize, before: usize) -> usize
     if bit == 1 { two(s, at) } else { before }
 }
 
-// A field of four bytes, or the value before where its bit is 0.
+// A field of four bytes, or the value before where its bit is 0. Apart from `two_or`: one function for both widths would take the reader of a
+// number as a closure, and its clause would name both all the same.
 fn four_or(s: &[u8], at: usize, bit: usize, before: u32) -> u32
     requires { at + 4 * bit ≤ length s.now }
     ensures { result ≡ cond (eqb bit 1) (number 4 (drop at s.now)) before }

@@ -9,7 +9,8 @@ ghost use Rattle.search_order.specs.Choice.{rest, comes_first, chosen, Says, sai
 // More than any candidate weighs.
 pub const NO_WEIGHT: u64 = u64::MAX;
 
-// A candidate: the tree, its one or two links, which are equal where there is one, the weight and the number of nodes in the side.
+// A candidate: the tree, its one or two links, which are equal where there is one, the weight and the number of nodes in the side. No Option for
+// the second link: its cell in a table and its place in the order are those of two equal links.
 #[derive(Clone, Copy)]
 pub struct Found {
     pub tree: u8,
@@ -62,7 +63,7 @@ pub fn pair_of(tree: u8, a: u16, b: u16, weight: u64, count: u16) -> Found
     }
 }
 
-// Where a search starts: no candidate yet, so that any one comes before it.
+// Where a search starts: no candidate yet, so that any one comes before it. No Option, which each candidate tried would have to be asked.
 pub fn unfound() -> Found
     ensures { Says result unfound }
 {

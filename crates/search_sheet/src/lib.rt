@@ -6,7 +6,7 @@ ghost use Rattle.cuts.specs.Answer.{reported};
 ghost use Rattle.arrays.specs.Sheets.{network_of};
 ghost use Rattle.search_sheet.specs.Reported.{ReportedSays};
 
-use arrays::Index;
+use arrays::NO_INDEX;
 use arrays::listed_sheets::ListedSheet;
 use arrays::sheets::Sheet;
 use search_order::{Found, unfound};
@@ -42,7 +42,7 @@ pub fn search_listed(n: &ListedSheet) -> Reported
 pub fn search_trees(n: &Sheet) -> Reported
     ensures { ReportedSays result (reported fewer_nodes (network_of n.now)) }
 {
-    let mut index = Index::empty();
+    let mut index = NO_INDEX;
     index_sheet(&mut index, n);
     search_listed(&ListedSheet {
         sheet: *n,

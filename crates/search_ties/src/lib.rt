@@ -57,7 +57,8 @@ fn mark_row(
 }
 
 // Marks in the table, which has no bit set, exactly those candidates of a tree of a listed sheet that weigh no more than the limit.
-// Cost: as that of `search_tree`.
+// Cost: as that of `search_tree`. The loop over the rows stands in both, and in `write_pairs`: as one function it would take what is done with a
+// row as a closure, with a clause on what each closure changes, and be longer than the three.
 pub fn mark_ties(table: &mut [u64; TABLE], n: &ListedSheet, r: &Ranked, limit: u64)
     requires { Markable table.old n.now.sheet.layout.nodes r.now }
     ensures { (t : Tree) → RankedTree (network_of n.now.sheet) t r.now

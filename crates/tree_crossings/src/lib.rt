@@ -12,6 +12,7 @@ ghost use Rattle.place_layers.specs.Layers.{FourLayers};
 ghost use Rattle.tree_crossings.specs.Layers.{PlaceOf, Placeable, EndsFlipped, EndsParted, odd_count};
 ghost use Rattle.tree_crossings.specs.Strikes.{CellThere, cell_crossings, CellsThere, Struck, Strikable};
 
+use arrays::Links;
 use arrays::sheets::Sheet;
 use bit_table::{flip_bit, next_bit};
 use format::limits::MOST_NODES;
@@ -32,20 +33,17 @@ fn place_of(ends: &[u8], place: &[u8; MOST_NODES], link: usize) -> usize
 fn flip_ends(
     layers: &mut [u64],
     nodes: usize,
-    firsts: &[u8],
-    seconds: &[u8],
+    links: &Links,
     members: &[u16],
-    count: usize,
     place: &[u8; MOST_NODES],
 )
-    requires { Placeable layers.old nodes firsts.now seconds.now members.now count }
-    ensures { EndsFlipped firsts.now seconds.now members.now count
+    requires { Placeable layers.old nodes links.now.firsts links.now.seconds members.now (length members.now) }
+    ensures { EndsFlipped links.now.firsts links.now.seconds members.now (length members.now)
         place.now layers.new }
 {
-    for r in 0..count {
-        let link = members[r] as usize;
-        let first = place_of(firsts, place, link);
-        let second = place_of(seconds, place, link);
+    for (r, &link) in members.iter().enumerate() {
+        let first = place_of(&links.firsts, place, link as usize);
+        let second = place_of(&links.seconds, place, link as usize);
         flip_bit(layers, MOST_NODES * (first + 1) + r);
         flip_bit(layers, MOST_NODES * (second + 1) + r);
     }
@@ -56,17 +54,15 @@ fn flip_ends(
 fn mark_layers(
     layers: &mut [u64],
     nodes: usize,
-    firsts: &[u8],
-    seconds: &[u8],
+    links: &Links,
     members: &[u16],
-    count: usize,
     place: &[u8; MOST_NODES],
 )
-    requires { Placeable layers.old nodes firsts.now seconds.now members.now count }
-    ensures { EndsParted nodes firsts.now seconds.now members.now count
+    requires { Placeable layers.old nodes links.now.firsts links.now.seconds members.now (length members.now) }
+    ensures { EndsParted nodes links.now.firsts links.now.seconds members.now (length members.now)
         place.now layers.new }
 {
-    flip_ends(layers, nodes, firsts, seconds, members, count, place);
+    flip_ends(layers, nodes, links, members, place);
     sum_layers(layers, nodes);
 }
 
@@ -140,17 +136,14 @@ pub fn strike_tree(table: &mut [u64; TABLE], n: &Sheet, i: usize, r: &Ranked)
         (λ h. p h && not (leb (crossings (network_of n.now) (tree_at (network_of n.now) i) (side_of (network_of n.now) t h)) 2)) table.new }
 {
     let nodes = n.layout.nodes;
-    let links = n.links;
     let mut members = [0u16; MOST_NODES];
     let count = list_members(&mut members, map_of(n, i), n.layout.links);
     let mut layers = [0u64; LAYERS];
     mark_layers(
         &mut layers,
         nodes,
-        &links.firsts,
-        &links.seconds,
-        &members,
-        count,
+        n.links,
+        &members[..count],
         &r.places.place,
     );
     strike(table, &layers, nodes, &r.places.stops, &r.at);

@@ -1,6 +1,6 @@
 // Grows a tree from the root, node 0, in time linear in its nodes and members: each node's members are looked at once, when its turn in
 // the order comes. The tree may be any choice of links; one that does not join all nodes does not grow.
-// The ends of link k stand in firsts[k] and seconds[k].
+// The ends of link k stand in firsts[k] and seconds[k], as in `by_node`.
 #![tactic(auto)]
 
 ghost use Rattle.std.specs.Prelude.{◌≡◌, false, MatchOption};

@@ -71,19 +71,15 @@ pub fn side_at(
     odd_words(layers, to, u, end, v)
 }
 
-// The side of the member `first` alone where `second` is equal to it, else of both; without a node where no place has one of them.
+// The side of the member `first` alone where `second` is equal to it, else of both.
 pub fn side_of(nodes: usize, p: &Places, first: u16, second: u16) -> [u64; SIDE_WORDS]
     requires { SideGiven nodes p.now.stops }
     ensures { (net : Network) (t : Tree) → Kept net t p.now.place p.now.node p.now.stops p.now.links
         → net.nodes ≡ nodes → Fits net t (chosen first second)
         → SideWords result (side_of net t (chosen first second)) }
 {
-    let (Some(u), Some(v)) = (
-        place_of(nodes, &p.links, first),
-        place_of(nodes, &p.links, second),
-    ) else {
-        return [0; SIDE_WORDS];
-    };
+    let u = place_of(nodes, &p.links, first).unwrap_or(0);
+    let v = place_of(nodes, &p.links, second).unwrap_or(0);
     let mut layers = [0; LAYERS];
     node_layers(&mut layers, nodes, &p.place);
     side_at(&layers, &p.stops, u, v)

@@ -14,10 +14,10 @@ use format::limits::SIDE_LENGTH;
 use format::numbers::{put_eight, put_two};
 use tree_sides::SIDE_WORDS;
 
-// What a report has for the second link of a single one.
+// What a report has for the second link of a single one: a number, as the C interface has it.
 pub const NO_SECOND: u16 = 65535;
 
-// The fields of the report area, in their order.
+// The fields of the report area, in their order, as the C interface has them.
 #[derive(Drop)]
 pub struct Report {
     pub verdict: u8,

@@ -18,8 +18,8 @@ loop-r-init c =
     let a = c.args in
     record {
       all = clear-length c.requires.clear;
-      flipped = subst (EndsFlipped a.firsts.now a.seconds.now a.members.now 0 a.place.now) (sym c.requires.clear)
-          (flipped_none a.firsts.now a.seconds.now a.members.now a.place.now layers_length);
+      flipped = subst (EndsFlipped a.links.now.firsts a.links.now.seconds a.members.now 0 a.place.now) (sym c.requires.clear)
+          (flipped_none a.links.now.firsts a.links.now.seconds a.members.now a.place.now layers_length);
     }
 
 pub loop-r-preserved : goal.loop-r-preserved
@@ -33,7 +33,7 @@ loop-r-preserved c =
     let Flipped : List ℕ → List ℕ → ℕ → Type 0 = λ old new x. (k : ℕ) → bit_of new k ≡ xor (bit_of old k) (eqb k (most_nodes * (x + 1) + l.r)) in
     record {
       all = omega (arith, c.flip_bit-in-loop-r.auto.words, c.flip_bit.auto.words, l.invariant.all);
-      flipped = flipped_more a.firsts.now a.seconds.now a.members.now a.place.now l.r l.layers once twice (omega arith) l.invariant.flipped
+      flipped = flipped_more a.links.now.firsts a.links.now.seconds a.members.now a.place.now l.r l.layers once twice (omega arith) l.invariant.flipped
           (subst (Flipped l.layers once) c.place_of-first.ensures.is c.flip_bit.ensures)
           (subst (Flipped once twice) c.place_of-second.ensures.is c.flip_bit-in-loop-r.ensures);
     }

@@ -10,5 +10,5 @@ use Rattle.tree_crossings.proofs.flip_ends.Given as goal
 abbrev pub invariant-loop-r : goal.invariant-loop-r
 invariant-loop-r l = record {
   all : length l.layers ≡ layers_length;
-  flipped : EndsFlipped l.firsts l.seconds l.members l.r l.place l.layers;
+  flipped : EndsFlipped l.links.firsts l.links.seconds l.members l.r l.place l.layers;
 }

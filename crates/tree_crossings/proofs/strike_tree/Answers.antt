@@ -2,7 +2,8 @@
 use Prim.Native.Nat.{◌-◌, ◌≤◌, ◌<◌}
 use mathlib.Core.Path.{◌≡◌, refl, sym, ap, ◌∙◌}
 use native.Mathlib.Omega.{arith}
-use lib.ListN.{length}
+use lib.ListN.{length, take}
+use lib.Seq.{length-take-le, get_or-take, take_all}
 use Rattle.cuts.specs.Sums.{count_to, table}
 use Rattle.cuts.specs.Network.{Tree, tree_at}
 use Rattle.cuts.specs.Limits.{most_nodes}
@@ -36,20 +37,35 @@ module _ (c : After-map_of) where
       ∙ map_at-members n.bytes.now p l.links (network_of n) (network_at-laid n.held).weighed.counted (record_there n.held c.args.i c.requires.listed).inside
       ∙ ap (λ (m : Bytes). table l.links (map_bit m)) (sym c.map_of.ensures)
 
+pub slice_bounds-members-end : goal.slice_bounds-members-end
+slice_bounds-members-end c =
+    let k = links_known c.args.n.now.held in
+    omega (arith, c.list_members-count.ensures.counted, counted (goal.at.slice_bounds-members-end c).After-map_of, k.some, k.few_nodes, c.list_members-count.auto.members)
+
+pub slice_bounds-mark_layers-end-2 : goal.slice_bounds-mark_layers-end-2
+slice_bounds-mark_layers-end-2 c =
+    let l = c.list_members-count in
+    let k = links_known c.args.n.now.held in
+    let few : l.result < most_nodes = omega (arith, l.ensures.counted, counted (goal.at.slice_bounds-mark_layers-end-2 c).After-map_of, k.some, k.few_nodes) in
+    sym (length-take-le l.result l.new.members (omega (arith, l.auto.members)))
+
 pub mark_layers-requires : goal.mark_layers-requires
 mark_layers-requires c =
     let l = c.list_members-count in
     let k = links_known c.args.n.now.held in
     let f : l.result < most_nodes = omega (arith, l.ensures.counted, counted (goal.at.mark_layers-requires c).After-map_of, k.some, k.few_nodes) in
     let there : l.result ≤ length l.new.members = omega (arith, f, l.auto.members) in
+    let many = length-take-le l.result l.new.members there in
     record {
       clear = refl;
       chosen = record {
         few_nodes = k.few_nodes;
-        there = there;
-        known = λ i b. k.known _ (listed-within l.new.members l.result c.args.n.now.layout.links _ l.ensures.listed there i b);
+        there = omega arith;
+        known = λ i b.
+            rw (get_or-take l.result l.new.members i 0 (omega arith))
+            (k.known _ (listed-within l.new.members l.result c.args.n.now.layout.links _ l.ensures.listed there i (omega arith)));
       };
-      few = f;
+      few = omega arith;
     }
 
 pub list_members-count-requires : goal.list_members-count-requires
@@ -76,16 +92,17 @@ returns c =
     let laid = network_at-laid n.held in
     let k = links_known n.held in
     let few : l.result < most_nodes = omega (arith, l.ensures.counted, counted g, k.some, k.few_nodes) in
+    let many = length-take-le l.result l.new.members (omega (arith, l.auto.members)) in
     λ t p ranked tabled.
     tabled_struck ranked (record {
       firsts = _;
       seconds = _;
       nodes = n.layout.nodes;
-      members = l.new.members;
-      count = l.result;
+      members = take l.result l.new.members;
+      count = length (take l.result l.new.members);
       held = laid.held;
       ends_parted = c.mark_layers.ensures;
-      few = few;
-      there = omega (arith, l.auto.members);
-      listed = l.ensures.listed ∙ member_links-map (network_of n) (tree_at (network_of n) a.i) c.map_of.result.now n.layout.links laid.weighed.counted (members g);
+      few = omega arith;
+      there = omega arith;
+      listed = take_all (length (take l.result l.new.members)) (take l.result l.new.members) (omega arith) ∙ l.ensures.listed ∙ member_links-map (network_of n) (tree_at (network_of n) a.i) c.map_of.result.now n.layout.links laid.weighed.counted (members g);
     }) p a.table.now c.strike.new.table tabled c.strike.ensures
