@@ -1,4 +1,5 @@
-// Tree records: a share, then a map with one bit a link.
+// Tree records: a share, then a map with one bit a link. They are read before there is a `Sheet`: the counts and the links that it will hold stand
+// apart here, since a struct for three functions would be taken apart in each.
 ghost use Rattle.std.specs.Prelude.{◌≡◌, ◌+◌, ◌*◌, ◌≤◌, false, MatchOption};
 ghost use Rattle.cuts.specs.Limits.{most_links};
 ghost use Rattle.cuts.specs.Sums.{table};

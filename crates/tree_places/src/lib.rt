@@ -2,6 +2,7 @@
 // the heaviest child's first. Which nodes lie below a link is then an interval of places, worked out once for each tree.
 // An order that fits no tree does no harm: places and stops then say nothing, and stay within MOST_NODES.
 // Cost: a few steps for each node.
+// Each pass asks that there are some nodes, and no more than there may be: of a number that all share a struct would say no more.
 #![tactic(auto)]
 
 ghost use Rattle.std.specs.Prelude.{◌≡◌, List, ℕ, ◌+◌, ◌%◌, ◌≤◌, ◌<◌};
