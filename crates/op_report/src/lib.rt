@@ -1,4 +1,4 @@
-// The report of a sheet: reads it, works out its answer and writes both areas.
+// The report of a sheet: reads it, works out its answer and writes both areas, which are lent apart, as the C interface has them.
 #![tactic(auto)]
 
 ghost use Rattle.std.specs.Prelude.{◌≡◌};

@@ -17,15 +17,15 @@ returns-then-no_side c =
     let a = c.args in
     let n = net (goal.at.returns-then-no_side c).After-no_side in
     elim c.then-no_side.branch [
-      | then-no_side-via-then-no_side w ↦ first-refused a.first.now a.second.now n (sym c.no_side.ensures ∙ w.if-no_side.true)
+      | then-no_side-via-then-no_side w ↦ first-refused a.maps.now.first.now a.maps.now.second.now n (sym c.no_side.ensures ∙ w.if-no_side.true)
       | then-no_side-via-else-no_side+then-no_side-2 w ↦
-          second-refused a.first.now a.second.now n (sym c.no_side.ensures ∙ w.if-no_side.false) (sym w.no_side-else-no_side.ensures ∙ w.if-no_side-2.true)
+          second-refused a.maps.now.first.now a.maps.now.second.now n (sym c.no_side.ensures ∙ w.if-no_side.false) (sym w.no_side-else-no_side.ensures ∙ w.if-no_side-2.true)
     ]
 
 pub returns : goal.returns
 returns c =
     let a = c.args in
-    both-given a.first.now a.second.now (net (goal.at.returns c).After-no_side) c.corner_table-rows.ensures
+    both-given a.maps.now.first.now a.maps.now.second.now (net (goal.at.returns c).After-no_side) c.corner_table-rows.ensures
     (sym c.no_side.ensures ∙ c.if-no_side.false) (sym c.no_side-else-no_side.ensures ∙ c.if-no_side-2.false) c.copy_from_slice.new.self
     (ap table_read (c.copy_from_slice.ensures.after ∙ c.as_flattened.ensures.value)
-    ∙ rows-read c.corner_table-rows.result (filled-four a.first.now a.second.now (net (goal.at.returns c).After-no_side) c.corner_table-rows.ensures))
+    ∙ rows-read c.corner_table-rows.result (filled-four a.maps.now.first.now a.maps.now.second.now (net (goal.at.returns c).After-no_side) c.corner_table-rows.ensures))

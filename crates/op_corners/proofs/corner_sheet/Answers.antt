@@ -20,8 +20,8 @@ returns-then-first-lt-SIDE_LENGTH c =
           second_short a.sheet.now a.first.now a.second.now w.if-first-lt-SIDE_LENGTH.false w.if-second-lt-SIDE_LENGTH.true
     ]
 
-pub corner_network-requires : goal.corner_network-requires
-corner_network-requires c = long (goal.at.corner_network-requires c).Else-second-lt-SIDE_LENGTH
+pub invariant_of-maps : goal.invariant_of-maps
+invariant_of-maps c = record { long = long (goal.at.invariant_of-maps c).Else-second-lt-SIDE_LENGTH }
 
 pub invariant_of-n : goal.invariant_of-n
 invariant_of-n c = record { held = sheet-held c.read_sheet.ensures c.in_ok-layout.was }

@@ -2,5 +2,5 @@
 -- Assumes nothing.
 use Rattle.op_list.proofs.list_network.Goals as goal
 
-pub list_listed-requires : goal.list_listed-requires
-list_listed-requires c = c.search_listed-limit.ensures.says.weight
+pub invariant_of-list_searched : goal.invariant_of-list_searched
+invariant_of-list_searched c = record { weight_is = c.search_listed-weight.ensures.says.weight }
