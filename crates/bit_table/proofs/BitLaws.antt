@@ -11,8 +11,7 @@ use native.Mathlib.Omega.{arith}
 use lib.ListN.{length, set, replicate, length-replicate, get_or-replicate, get_or-eq_default}
 use lib.Seq.{get_or-set_same, get_or-set_other}
 use lib.Pow.{pow_mono, shr-shr, shr_le, shl_exact}
-use lib.Arith.{bin_ind}
-use lib.Bits.{bit_and, bit_or, bit_xor, and_step, and_self}
+use lib.Bits.{bit_or, bit_xor}
 use lib.Count.{count_trailing_zeros, ones, ones_step, ones-ones}
 use lib.Dec.{eqb}
 use Rattle.std.specs.Int.{bit_at, w64}
@@ -169,32 +168,3 @@ ones_count n w h =
     let z : ones (w / 2 ^ n) ≡ 0 = ap ones e ∙ ones-ones 0 in
     let s = ones_above w n in
     omega arith
-
-ones_double : (n : ℕ) → ones (n * 2) ≡ ones n
-ones_double n =
-    let half : n * 2 / 2 ≡ n = omega arith in
-    let step = ones_step (n * 2) in
-    let above = ap ones half in
-    omega arith
-
--- a number and one less have its ones in common, but for the lowest
-pub ones_lowest : (n : ℕ) → (n ≡ 0 → ⊥) → ones (bit_and n (n - 1)) + 1 ≡ ones n
-ones_lowest = bin_ind (λ (n : ℕ). (n ≡ 0 → ⊥) → ones (bit_and n (n - 1)) + 1 ≡ ones n) (λ h. absurd (h refl)) step
-  where
-    step : (n : ℕ) → ((n / 2 ≡ 0 → ⊥) → ones (bit_and (n / 2) (n / 2 - 1)) + 1 ≡ ones (n / 2)) → (n ≡ 0 → ⊥)
-        → ones (bit_and n (n - 1)) + 1 ≡ ones n
-    step n r h =
-        let digits = and_step n (n - 1) in
-        let above : bit_and n (n - 1) ≡ bit_and (n / 2) ((n - 1) / 2) * 2 = omega arith in
-        ap (λ (x : ℕ). x + 1) (ap ones above ∙ ones_double (bit_and (n / 2) ((n - 1) / 2))) ∙ go (ℕ_discrete (n % 2) 1)
-      where
-        go : Dec (n % 2 ≡ 1) → ones (bit_and (n / 2) ((n - 1) / 2)) + 1 ≡ ones n
-        go (yes e) =
-            let same : (n - 1) / 2 ≡ n / 2 = omega arith in
-            let first = ones_step n in
-            rw (same, and_self (n / 2)) (omega arith)
-        go (no e) =
-            let less : (n - 1) / 2 ≡ n / 2 - 1 = omega arith in
-            let first = ones_step n in
-            let rest = r (λ z. h (omega arith)) in
-            rw less (omega arith)
