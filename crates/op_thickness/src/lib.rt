@@ -17,7 +17,8 @@ use read_sheet::read_sheet;
 use search_sheet::search_trees;
 
 // Writes the smallest weight of a link with which the reported weight is no less than wanted, for the network that was read from the sheet
-// into the links; or answers the refusal and writes 0. The link's weight is lost.
+// into the links; or answers the refusal and writes 0. The link's weight is lost. Bytes, layout and links are not given as a `Sheet`, which lends
+// its links for reading only.
 fn network_thickness(
     figure: &mut u32,
     bytes: &[u8],

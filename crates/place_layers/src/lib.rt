@@ -22,7 +22,7 @@ pub fn sum_layers(layers: &mut [u64], last: usize)
     }
 }
 
-// Word j of the bits that are set in an odd number of four layers.
+// Word j of the bits that are set in an odd number of four layers. A struct of four numbers that play one part would name nothing.
 pub fn odd_word(layers: &[u64; LAYERS], a: usize, b: usize, c: usize, d: usize, j: usize) -> u64
     requires { WordThere a b c d j }
     ensures { result ≡ odd_word layers.now a b c d j }

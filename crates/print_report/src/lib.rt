@@ -103,7 +103,7 @@ fn answer_lines(printer: &mut Printer, side: &[u8; SIDE_LENGTH], report: &[u8; R
     side_line(printer, side);
 }
 
-// Prints what the report program prints for a sheet.
+// Prints what the report program prints for a sheet. It reads a sheet as C does, and has the number that C has.
 fn put_output(printer: &mut Printer, sheet: &[u8])
     requires { most_output ≤ length printer.old.rest }
     ensures { PutIn most_output printer.old

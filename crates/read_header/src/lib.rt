@@ -11,6 +11,7 @@ use format::limits::*;
 use format::numbers::two;
 use format::refusals::Refusal;
 
+// How many nodes, links and trees a sheet says that it has. No `Layout`: where the tree records begin is known once the links are read.
 #[derive(Clone, Copy)]
 pub struct Counts {
     pub nodes: usize,

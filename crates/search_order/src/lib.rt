@@ -21,6 +21,7 @@ pub struct Found {
 }
 
 // What decides between two candidates that are even in weight, nodes, tree and first link: 0 for one link, for two one more than the second.
+// A number, as the definition has it, so that two compare in one step.
 fn rest_of(first: u16, second: u16) -> u32
     ensures { result ≡ rest (chosen first second) }
 {

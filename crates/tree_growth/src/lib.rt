@@ -19,7 +19,8 @@ use format::limits::MOST_NODES;
 // Each member stands among those of both its ends.
 const MEMBER_RUNS: usize = 2 * MOST_NODES;
 
-// A tree as it grew: its nodes in order, and each node's parent and parent link.
+// A tree as it grew: its nodes in order, and each node's parent and parent link. Parents and links stand apart: a struct of both would take a
+// byte more for each node.
 #[derive(Drop)]
 pub struct Grown {
     pub order: [u8; MOST_NODES],
@@ -28,7 +29,8 @@ pub struct Grown {
 }
 
 // Whether the tree's members, listed by node, join every node to the root; if so, the tree is ordered. The order is a queue: its nodes are taken
-// in turn, and each member of the one taken that leads to a node not reached yet, which its parent link does not, puts that node at the end.
+// in turn, and each member of the one taken that leads to a node not reached yet, which its parent link does not, puts that node at the end. No `for` over the
+// order: it grows while it is gone over.
 fn grow_queue(
     tree: &mut Grown,
     nodes: usize,

@@ -22,7 +22,7 @@ const PLACE_NUMBERS: u16 = MOST_NODES as u16;
 const STOP_NUMBERS: u32 = MOST_NODES as u32 + 1;
 
 // A tree by its places: the place of each node and, by place, the node, its stop, which is the first place behind its subtree, and its
-// parent link.
+// parent link. A struct for each place would take a byte more, and most passes read one of the three.
 #[derive(Clone, Copy)]
 pub struct Places {
     pub place: [u8; MOST_NODES],

@@ -3,6 +3,7 @@
 // every link behind it.
 // The sums are written as ones that may wrap, since the arrays alone do not say how large they are; of every network with at most 2,048
 // links of weights below 2^32 they stay below 2^45, and none wraps.
+// Links, index and places are given one by one, and not as a listed sheet: rows are of any network, and this crate knows of no sheet.
 #![tactic(auto)]
 
 ghost use Rattle.std.specs.Prelude.{◌≡◌, ℕ, suc, ◌<◌, ◌≤◌, List, MatchOption};
@@ -180,7 +181,7 @@ impl Figures {
     }
 
     // The weight of the links at the places `u` and `v`, behind it, as a pair, from the row of u: both alone, less twice what they share,
-    // which is what crosses the places below u at those below v.
+    // which is what crosses the places below u at those below v. Of the places only the stops are read.
     pub fn pair_weight(&self, stops: &[u16; MOST_NODES], u: usize, v: usize) -> u64
         requires { Behind stops.now u v }
         ensures { (net : Network) (t : Tree) (place node links : List ℕ)
