@@ -37,7 +37,7 @@ fn next_word(words: &[u64], from: usize, end: usize) -> Option<usize>
     None
 }
 
-// The first bit from `from` on that is set, `None` where there is none in front of bit `end`.
+// The first bit from `from` on that is set, `None` where there is none in front of bit `end`. No `for`: a step goes to the next word.
 pub fn next_bit(words: &[u64], from: usize, end: usize) -> Option<usize>
     requires { BitsAhead words.now from end }
     ensures { MatchOption result (BitsClear words.now from end) (NextBit words.now from end) }

@@ -30,8 +30,8 @@ pub fn ones(map: &[u8]) -> usize
     map.iter().map(|byte| byte.count_ones() as usize).sum()
 }
 
-// Lists the links below the link count whose bits are set, rising, and answers how many they are. Every link is written behind those listed,
-// and the next one over it where its bit is not set, since a store that waits for no bit is the quicker one.
+// Lists the links below the link count whose bits are set, rising, and answers how many they are, as what fills a buffer does. Every link is
+// written behind those listed, and the next one over it where its bit is not set, since a store that waits for no bit is the quicker one.
 pub fn list_members(members: &mut [u16], map: &[u8], links: usize) -> usize
     requires { MembersFit map.now links members.old }
     ensures { MembersListed map.now links members.new result }

@@ -29,8 +29,8 @@ pub struct Grown {
 }
 
 // Whether the tree's members, listed by node, join every node to the root; if so, the tree is ordered. The order is a queue: its nodes are taken
-// in turn, and each member of the one taken that leads to a node not reached yet, which its parent link does not, puts that node at the end. No `for` over the
-// order: it grows while it is gone over.
+// in turn, and each member of the one taken that leads to a node not reached yet, which its parent link does not, puts that node at the end.
+// No `for` over the order, which grows while it is gone over; no Option, since the tree is filled where it stands.
 fn grow_queue(
     tree: &mut Grown,
     nodes: usize,
