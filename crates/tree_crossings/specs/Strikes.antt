@@ -7,11 +7,14 @@
 --   CellsThere nodes stops                   so they are, and there are so many nodes, the root among them, no more than a sheet can have
 --   Struck nodes layers stops at before after
 --                                            `after` is `before` less the cells, of so many nodes, with sides that at most two cross
---   Strikable n i r                          the sheet n has a tree i, and r has known stops
+--   Strikable map nodes count links r        the map has members of so many known links for a tree of so many nodes; r has known stops
 use Rattle.std.specs.Prelude.{ℕ, ◌-◌, ◌/◌, ◌%◌, ◌≤◌, ◌<◌, ◌≡◌, Bool, ◌&&◌, not, cond, List, eqb, leb, ltb}
 use Rattle.cuts.specs.Limits.{most_nodes}
 use Rattle.arrays.specs.Lists.{entry}
-use Rattle.arrays.specs.declared.sheets.Sheet.{Sheet}
+use Rattle.arrays.specs.Links.{ends_of}
+use Rattle.arrays.specs.declared.Links.{Links}
+use Rattle.sheet.specs.Bytes.{Bytes}
+use Rattle.read_sheet.specs.TreesRead.{MapCounted}
 use Rattle.tree_places.specs.Places.{StopsKnown}
 use Rattle.tree_ranks.specs.declared.Ranked.{Ranked}
 use Rattle.bit_table.specs.Bits.{bit_of}
@@ -40,6 +43,6 @@ Struck nodes layers stops at before after =
     (k : ℕ) → bit_of after k
     ≡ (bit_of before k && not (ltb k (cells_end (nodes - 1)) && leb (cell_crossings layers stops at k) 2))
 
-pub record Strikable (n : Sheet) (i : ℕ) (r : Ranked) : Type 0 where
-  pub listed : i < n.layout.trees
+pub record Strikable (map : Bytes) (nodes count : ℕ) (links : Links) (r : Ranked) : Type 0 where
+  pub counted : MapCounted map nodes count (ends_of links)
   pub stops_known : StopsKnown r.places.stops

@@ -2,10 +2,12 @@
 #![tactic(auto)]
 
 ghost use Rattle.std.specs.Prelude.{◌≡◌, ◌<◌, Bool, ◌&&◌, not, length, leb};
-ghost use Rattle.cuts.specs.Network.{Tree, tree_at};
+ghost use Rattle.cuts.specs.Sums.{table as flagTable};
+ghost use Rattle.cuts.specs.Network.{Network, Tree, link_count};
 ghost use Rattle.cuts.specs.Cut.{crossings};
 ghost use Rattle.cuts.specs.Candidate.{Handle, side_of};
-ghost use Rattle.arrays.specs.Sheets.{network_of};
+ghost use Rattle.arrays.specs.Links.{Held};
+ghost use Rattle.sheet.specs.Bytes.{map_bit};
 ghost use Rattle.tree_ranks.specs.Ranks.{RankedTree};
 ghost use Rattle.bit_table.specs.Cells.{Tabled};
 ghost use Rattle.place_layers.specs.Layers.{FourLayers};
@@ -13,12 +15,10 @@ ghost use Rattle.tree_crossings.specs.Layers.{PlaceOf, Placeable, EndsFlipped, E
 ghost use Rattle.tree_crossings.specs.Strikes.{CellThere, cell_crossings, CellsThere, Struck, Strikable};
 
 use arrays::Links;
-use arrays::sheets::Sheet;
 use bit_table::{flip_bit, next_bit};
 use format::limits::MOST_NODES;
 use format::maps::list_members;
 use place_layers::{LAYER, LAYERS, odd_word, sum_layers};
-use sheet_trees::map_of;
 use tree_ranks::{Ranked, TABLE};
 
 // The place of a link's end.
@@ -127,23 +127,30 @@ fn strike(
     }
 }
 
-// Strikes out of the table of a ranked tree the sides that cross at most two members of tree `i` of the sheet.
-pub fn strike_tree(table: &mut [u64; TABLE], n: &Sheet, i: usize, r: &Ranked)
-    requires { Strikable n.now i r.now }
-    ensures { (t : Tree) (p : Handle → Bool) → RankedTree (network_of n.now) t r.now
-        → Tabled (network_of n.now) t p table.old
-        → Tabled (network_of n.now) t
-        (λ h. p h && not (leb (crossings (network_of n.now) (tree_at (network_of n.now) i) (side_of (network_of n.now) t h)) 2)) table.new }
+// Strikes out of the table of a ranked tree the sides that cross at most two members of the tree in a map, of so many links.
+pub fn strike_tree(
+    table: &mut [u64; TABLE],
+    map: &[u8],
+    nodes: usize,
+    count: usize,
+    links: &Links,
+    r: &Ranked,
+)
+    requires { Strikable map.now nodes count links.now r.now }
+    ensures { (net : Network) (t t' : Tree) (p : Handle → Bool)
+        → Held net links.now.firsts links.now.seconds nodes → link_count net ≡ count
+        → t'.members ≡ flagTable count (map_bit map.now)
+        → RankedTree net t r.now → Tabled net t p table.old
+        → Tabled net t (λ h. p h && not (leb (crossings net t' (side_of net t h)) 2)) table.new }
 {
-    let nodes = n.layout.nodes;
     let mut members = [0u16; MOST_NODES];
-    let count = list_members(&mut members, map_of(n, i), n.layout.links);
+    let listed = list_members(&mut members, map, count);
     let mut layers = [0u64; LAYERS];
     mark_layers(
         &mut layers,
         nodes,
-        n.links,
-        &members[..count],
+        links,
+        &members[..listed],
         &r.places.place,
     );
     strike(table, &layers, nodes, &r.places.stops, &r.at);
