@@ -17,7 +17,7 @@ use borrow.Author.Tests.{ltb-true, lt-ltb, le-ltb, not-true, not-false}
 use Rattle.std.specs.List.{list_any, range_with_len}
 use Rattle.cuts.specs.Sums.{only, any_to, table}
 use Rattle.cuts.specs.Network.{Tree, Network, link_count}
-use Rattle.cuts.specs.Limits.{most_links, four_bytes}
+use Rattle.cuts.specs.Limits.{most_links, most_trees, four_bytes}
 use Rattle.cuts.specs.Bound.{load, shares, Overloads, LongestRun, longest_run, counted}
 use Rattle.cuts.proofs.FlagLaws.{clash, truth}
 use Rattle.cuts.proofs.SumLaws.{all-suc, only_none, any_to-some, any_to-at, table_at, table-length, take-table}
@@ -28,9 +28,7 @@ use Rattle.arrays.specs.Links.{Weighed}
 use Rattle.sheet.specs.Bytes.{Bytes, number, map_bit}
 use Rattle.sheet.specs.Sheet.{map_length, tree_length, tree_in}
 use Rattle.arrays.specs.Records.{trees_from}
-use Rattle.arrays.specs.Sheets.{network_of}
-use Rattle.arrays.specs.declared.sheets.Sheet.{Sheet}
-use Rattle.read_sheet.proofs.NetworkLaws.{network_at-laid}
+use Rattle.arrays.specs.declared.Layout.{Layout}
 use Rattle.read_sheet.proofs.TreeLaws.{members-at, trees_from-more}
 use Rattle.packing.specs.Loads.{overfull, ShareAdded, TreeTested, Totals, TreesCounted}
 
@@ -224,32 +222,16 @@ module _ {s : Bytes} {ws : List ℕ} {at links : ℕ} {loads : List ℕ} {sum n 
       }
 
 -- counting is done
-module _ (n : Sheet) where
-  weighed : Weighed (network_of n) n.links.now.weights n.layout.links
-  weighed = (network_at-laid n.held).weighed
-
-  trees-held : trees_from (network_of n) n.layout.trees (drop n.layout.records n.bytes.now) ≡ (network_of n).trees
-  unfolding trees_from tree_in
-  trees-held = refl
-
-module _ {n : Sheet} {loads : List ℕ} {sum k : ℕ} (x : Loaded n.bytes.now n.links.now.weights n.layout.records n.layout.links loads sum k) where
+module _ {s : Bytes} {l : Layout} {ws loads : List ℕ} {sum n : ℕ} (few : l.trees ≤ most_trees) (x : Loaded s ws l.records l.links loads sum n) where
   -- all trees count
-  pub all_counted : k ≡ n.layout.trees → TreesCounted n loads sum
-  unfolding trees_from
-  all_counted e = record {
-    totals = rw (← trees-held n) (totals-are n.layout.trees x (omega arith) (network_of n) (weighed n) (inl e));
-    most = let a = x.small in let f = n.held.few_trees in omega arith;
-  }
+  pub all_counted : n ≡ l.trees → TreesCounted s l ws loads sum
+  all_counted e = record { totals = λ net w. totals-are l.trees x (omega arith) net w (inl e); most = let a = x.small in omega arith }
 
-  -- or the run ends at tree k
-  pub run_counted : k < n.layout.trees → Overfilled n.bytes.now n.links.now.weights n.layout.records n.layout.links k → TreesCounted n loads sum
-  unfolding trees_from
+  -- or the run ends at tree n
+  pub run_counted : n < l.trees → Overfilled s ws l.records l.links n → TreesCounted s l ws loads sum
   run_counted b o = record {
-    totals =
-        let net = network_of n in
-        let s = n.bytes.now in
-        let at = n.layout.records in
-        let e = ap (λ (i : ℕ). trees_from net i (drop at s)) (add-one k) ∙ sym (first-trees net s at n.layout.trees (suc k) b) in
-        rw (← trees-held n) (totals-are n.layout.trees x (omega arith) net (weighed n) (inr (subst (Overloads net) e (o net (weighed n)))));
-    most = let a = x.small in let f = n.held.few_trees in omega arith;
+    totals = λ net w.
+        let e = ap (λ (i : ℕ). trees_from net i (drop l.records s)) (add-one n) ∙ sym (first-trees net s l.records l.trees (suc n) b) in
+        totals-are l.trees x (omega arith) net w (inr (subst (Overloads net) e (o net w)));
+    most = let a = x.small in omega arith;
   }

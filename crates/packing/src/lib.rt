@@ -1,17 +1,18 @@
 // The packing bound: which trees count, the load that they put on each link, and the floor and the verdict that follow.
 #![tactic(auto)]
 
-ghost use Rattle.std.specs.Prelude.{◌≡◌, ◌*◌, ◌≤◌, min, replicate};
+ghost use Rattle.std.specs.Prelude.{◌≡◌, ◌*◌, ◌≤◌, min, drop};
 ghost use Rattle.cuts.specs.Sums.{any_to};
-ghost use Rattle.cuts.specs.Limits.{most_links};
+ghost use Rattle.cuts.specs.Network.{Network};
 ghost use Rattle.cuts.specs.Bound.{counted, floor};
 ghost use Rattle.cuts.specs.Answer.{verdict_of};
+ghost use Rattle.arrays.specs.Links.{Weighed};
 ghost use Rattle.sheet.specs.Sheet.{current};
-ghost use Rattle.arrays.specs.Sheets.{network_of};
-ghost use Rattle.packing.specs.Loads.{Loading, overfull, Roomy, ShareAdded, TreeTested, most_shares, TreesCounted};
+ghost use Rattle.arrays.specs.Records.{trees_from};
+ghost use Rattle.packing.specs.Loads.{TreesThere, Loading, overfull, Roomy, ShareAdded, TreeTested, most_shares, Unloaded, TreesCounted};
 ghost use Rattle.packing.specs.Verdicts.{verdict_number};
 
-use arrays::sheets::Sheet;
+use arrays::Layout;
 use format::limits::MOST_LINKS;
 use format::maps::bit_set;
 use format::numbers::four;
@@ -54,18 +55,21 @@ fn count_tree(loads: &mut [u32], map: &[u8], links: usize, weights: &[u32], shar
 
 // Counts the trees of a sheet up to the first that would load a link past its weight. No link has any load yet; afterwards the links have the
 // loads of the trees that count. Answers the sum of their shares.
-fn count_trees(loads: &mut [u32; MOST_LINKS], n: &Sheet) -> u64
-    requires { loads.old ≡ replicate most_links 0 }
-    ensures { TreesCounted n.now loads.new result }
+fn count_trees(
+    loads: &mut [u32; MOST_LINKS],
+    bytes: &[u8],
+    layout: Layout,
+    weights: &[u32; MOST_LINKS],
+) -> u64
+    requires { Unloaded loads.old bytes.now layout }
+    ensures { TreesCounted bytes.now layout weights.now loads.new result }
 {
-    let l = n.layout;
-    let links = n.links;
     let mut sum = 0;
-    for i in 0..l.trees {
-        let at = record_at(l.records, l.links, i);
-        let share = four(n.bytes, at);
-        let map = tree_map(n.bytes, at, l.links);
-        if !count_tree(loads, map, l.links, &links.weights, share) {
+    for i in 0..layout.trees {
+        let at = record_at(layout.records, layout.links, i);
+        let share = four(bytes, at);
+        let map = tree_map(bytes, at, layout.links);
+        if !count_tree(loads, map, layout.links, weights, share) {
             break;
         }
         sum += u64::from(share);
@@ -82,12 +86,14 @@ fn floor_from(shares: u64, weight: u64) -> u64
 }
 
 // The floor that the trees of a sheet give, where `weight` is that of the cut found.
-pub fn floor_of(n: &Sheet, weight: u64) -> u64
-    ensures { result
-        ≡ floor (counted current.rules.counting (network_of n.now) (network_of n.now).trees) weight }
+pub fn floor_of(bytes: &[u8], layout: Layout, weights: &[u32; MOST_LINKS], weight: u64) -> u64
+    requires { TreesThere bytes.now layout }
+    ensures { (net : Network) → Weighed net weights.now layout.links
+        → result ≡ floor (counted current.rules.counting net
+        (trees_from net layout.trees (drop layout.records bytes.now))) weight }
 {
     let mut loads = [0u32; MOST_LINKS];
-    let shares = count_trees(&mut loads, n);
+    let shares = count_trees(&mut loads, bytes, layout, weights);
     floor_from(shares, weight)
 }
 

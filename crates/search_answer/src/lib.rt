@@ -24,7 +24,7 @@ pub fn answer_sheet(n: &Sheet) -> Answer
 {
     let best = search_trees(n);
     let weight = best.found.weight;
-    let floor = floor_of(n, weight);
+    let floor = floor_of(n.bytes, n.layout, &n.links.weights, weight);
     let verdict = Verdict::of(floor, weight);
     Answer {
         best,

@@ -14,24 +14,24 @@ use Rattle.packing.proofs.count_trees.Goals.{After-count_tree}
 
 module _ (c : After-count_tree) where
   -- the map of the record
-  slice : let n = c.args.n.now in c.tree_map-map.result.now ≡ map_at n.bytes.now (record_of n.layout c.loop-i.i) n.layout.links
-  slice = let n = c.args.n.now in c.tree_map-map.ensures ∙ ap (λ (p : ℕ). map_at n.bytes.now p n.layout.links) c.record_at-at.ensures
+  slice : let a = c.args in c.tree_map-map.result.now ≡ map_at a.bytes.now (record_of a.layout c.loop-i.i) a.layout.links
+  slice = let a = c.args in c.tree_map-map.ensures ∙ ap (λ (p : ℕ). map_at a.bytes.now p a.layout.links) c.record_at-at.ensures
 
   -- its share
-  share_is : let n = c.args.n.now in c.four-share.result ≡ number 4 (drop (record_of n.layout c.loop-i.i) n.bytes.now)
-  share_is = c.four-share.ensures ∙ ap (λ (p : ℕ). number 4 (drop p c.args.n.now.bytes.now)) c.record_at-at.ensures
+  share_is : let a = c.args in c.four-share.result ≡ number 4 (drop (record_of a.layout c.loop-i.i) a.bytes.now)
+  share_is = c.four-share.ensures ∙ ap (λ (p : ℕ). number 4 (drop p c.args.bytes.now)) c.record_at-at.ensures
 
   -- it ends within the sheet
-  whole : let n = c.args.n.now in record_of n.layout c.loop-i.i + tree_length n.layout.links ≤ length n.bytes.now
+  whole : let a = c.args in record_of a.layout c.loop-i.i + tree_length a.layout.links ≤ length a.bytes.now
   whole =
-      let n = c.args.n.now in
-      let l = n.layout in
-      record_inside l.records l.trees (tree_length l.links) (length n.bytes.now) c.loop-i.i n.held.inside c.loop-i-test.true
+      let a = c.args in
+      let l = a.layout in
+      record_inside l.records l.trees (tree_length l.links) (length a.bytes.now) c.loop-i.i c.requires.trees_there.inside c.loop-i-test.true
 
 pub loop-i-init : goal.loop-i-init
 loop-i-init c =
-    let n = c.args.n.now in
-    rw c.requires (loaded-none n.bytes.now n.links.now.weights n.layout.records n.layout.links most_links refl n.held.few_links)
+    let a = c.args in
+    rw c.requires.none (loaded-none a.bytes.now a.weights.now a.layout.records a.layout.links most_links refl c.requires.trees_there.few_links)
 
 pub loop-i-preserved : goal.loop-i-preserved
 loop-i-preserved c =
@@ -40,12 +40,12 @@ loop-i-preserved c =
     c.if-not-count_tree.false c.four-share.type_inv)
 
 pub returns-after-loop-i : goal.returns-after-loop-i
-returns-after-loop-i c = all_counted c.loop-i.invariant (omega arith)
+returns-after-loop-i c = all_counted c.requires.trees_there.few_trees c.loop-i.invariant (omega arith)
 
 pub returns-then-not-count_tree : goal.returns-then-not-count_tree
 returns-then-not-count_tree c =
     let t = (goal.at.returns-then-not-count_tree c).After-count_tree in
     let i = c.loop-i.invariant in
     let ends = c.if-not-count_tree.true in
-    run_counted (loaded-same i refl (slice t) (whole t) (share_is t) c.count_tree.ensures c.count_tree.auto.loads ends)
+    run_counted c.requires.trees_there.few_trees (loaded-same i refl (slice t) (whole t) (share_is t) c.count_tree.ensures c.count_tree.auto.loads ends)
     c.loop-i-test.true (overfilled i refl (slice t) (whole t) (share_is t) c.count_tree.ensures c.count_tree.auto.loads ends)

@@ -5,4 +5,4 @@ use Rattle.packing.proofs.ShareLaws.{Loaded}
 use Rattle.packing.proofs.count_trees.Given as goal
 
 abbrev pub invariant-loop-i : goal.invariant-loop-i
-invariant-loop-i l = Loaded l.n.bytes.now l.n.links.now.weights l.n.layout.records l.n.layout.links l.loads l.sum l.i
+invariant-loop-i l = Loaded l.bytes l.weights l.layout.records l.layout.links l.loads l.sum l.i

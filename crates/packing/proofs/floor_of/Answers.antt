@@ -5,4 +5,4 @@ use Rattle.packing.proofs.floor_of.Goals as goal
 
 pub returns : goal.returns
 unfolding floor
-returns c = rw (c.floor_from.ensures, c.count_trees-shares.ensures.totals.sums)
+returns c net w = rw (c.floor_from.ensures, (c.count_trees-shares.ensures.totals net w).sums)
