@@ -6,14 +6,16 @@
 --   InRows n u v x y                             x and y are places but the root's of n, x no later than y, passed before row u, column v
 --   LightMarked net t l rk P limit table         where l has the links and rk the ranks by place, the bits set are the cells of those pairs of
 --                                                places P that weigh no more than the limit
---   Markable table nodes r      no bit of the table is set, and the ranked tree's places are known
+--   Markable table links index r nodes           no bit of the table is set, and links and places of the ranked tree are searchable
 use Rattle.std.specs.Prelude.{ℕ, ◌+◌, ◌*◌, ◌≤◌, ◌<◌, min, max, ◌≡◌, true, List, length, replicate}
 use Rattle.cuts.specs.Network.{Network, Tree}
 use Rattle.cuts.specs.Candidate.{weight_of}
 use Rattle.cuts.specs.Limits.{most_nodes}
 use Rattle.arrays.specs.Lists.{entry}
+use Rattle.arrays.specs.declared.Index.{Index}
+use Rattle.arrays.specs.declared.Links.{Links}
 use Rattle.tree_ranks.specs.declared.Ranked.{Ranked}
-use Rattle.tree_rows.specs.Making.{PlacesKnown}
+use Rattle.tree_rows.specs.Making.{Searchable}
 use Rattle.search_order.specs.Visits.{handle_at, passed}
 use Rattle.bit_table.specs.Bits.{bit_of}
 use Rattle.bit_table.specs.Cells.{cells_end}
@@ -41,6 +43,6 @@ pub record LightMarked (net : Network) (t : Tree) (links rank : List ℕ) (among
   pub every : (x y : ℕ) → among x y → weight_of_places net t links x y ≤ limit
       → bit_of table (cell_at rank x y) ≡ true
 
-pub record Markable (table : List ℕ) (nodes : ℕ) (r : Ranked) : Type 0 where
+pub record Markable (table : List ℕ) (links : Links) (index : Index) (r : Ranked) (nodes : ℕ) : Type 0 where
   pub clear : table ≡ replicate (length table) 0
-  pub places_known : PlacesKnown nodes r.places
+  pub searchable : Searchable links index r.places nodes

@@ -4,13 +4,14 @@
 ghost use Rattle.std.specs.Prelude.{◌≡◌, List, ℕ, ◌+◌, leb};
 ghost use Rattle.cuts.specs.Network.{Network, Tree};
 ghost use Rattle.cuts.specs.Candidate.{weight_of};
-ghost use Rattle.arrays.specs.Sheets.{network_of};
+ghost use Rattle.arrays.specs.ByNode.{Degrees};
+ghost use Rattle.tree_rows.specs.Making.{TreeHeld};
 ghost use Rattle.tree_rows.specs.Reading.{RowHeld, RowAt};
-ghost use Rattle.tree_ranks.specs.Ranks.{RankedTree};
+ghost use Rattle.tree_ranks.specs.Ranks.{RanksOf};
 ghost use Rattle.bit_table.specs.Cells.{Tabled};
 ghost use Rattle.search_ties.specs.Ties.{IsCellOf, InRows, LightMarked, Markable};
 
-use arrays::listed_sheets::ListedSheet;
+use arrays::{Index, Links};
 use bit_table::set_bit;
 use format::limits::MOST_NODES;
 use tree_ranks::{Ranked, TABLE};
@@ -56,21 +57,21 @@ fn mark_row(
     }
 }
 
-// Marks in the table, which has no bit set, exactly those candidates of a tree of a listed sheet that weigh no more than the limit.
+// Marks in the table, which has no bit set, exactly those candidates of a tree that weigh no more than the limit. `index` has the links by node.
 // Cost: as that of `search_tree`. The loop over the rows stands in both, and in `write_pairs`: as one function it would take what is done with a
 // row as a closure, with a clause on what each closure changes, and be longer than the three.
-pub fn mark_ties(table: &mut [u64; TABLE], n: &ListedSheet, r: &Ranked, limit: u64)
-    requires { Markable table.old n.now.sheet.layout.nodes r.now }
-    ensures { (t : Tree) → RankedTree (network_of n.now.sheet) t r.now
-        → Tabled (network_of n.now.sheet) t (λ h. leb (weight_of (network_of n.now.sheet) t h) limit) table.new }
+pub fn mark_ties(table: &mut [u64; TABLE], nodes: usize, links: &Links, index: &Index, r: &Ranked, limit: u64)
+    requires { Markable table.old links.now index.now r.now nodes }
+    ensures { (net : Network) (t : Tree)
+        → TreeHeld net t links.now index.now r.now.places nodes → RanksOf net t r.now.places.links r.now.at r.now.rank
+        → Degrees net index.now.degrees
+        → Tabled net t (λ h. leb (weight_of net t h) limit) table.new }
 {
-    let nodes = n.sheet.layout.nodes;
-    let index = n.index;
     let p = &r.places;
     let mut figures = NO_FIGURES;
     figures.weigh_places(nodes, &p.node, &index.degrees);
     for u in (1..nodes).rev() {
-        figures.make_row(nodes, n.sheet.links, index, p, u);
+        figures.make_row(nodes, links, index, p, u);
         mark_row(table, &figures, nodes, &p.stops, &r.rank, u, limit);
     }
 }

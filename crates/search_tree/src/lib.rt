@@ -5,14 +5,13 @@ ghost use Rattle.std.specs.Prelude.{◌≡◌, List, ℕ, ◌+◌, ◌<◌};
 ghost use Rattle.cuts.specs.First.{first_from};
 ghost use Rattle.cuts.specs.Network.{Network, Tree};
 ghost use Rattle.cuts.specs.Candidate.{Candidate, candidate, fewer_nodes, ahead};
-ghost use Rattle.arrays.specs.Kept.{Kept};
-ghost use Rattle.arrays.specs.Sheets.{network_of};
-ghost use Rattle.tree_rows.specs.Making.{PlacesKnown};
+ghost use Rattle.arrays.specs.ByNode.{Degrees};
+ghost use Rattle.tree_rows.specs.Making.{Searchable, TreeHeld};
 ghost use Rattle.tree_rows.specs.Reading.{RowHeld, RowAt, ColumnAt};
 ghost use Rattle.search_order.specs.Choice.{Says, Prior, tree_candidates};
 ghost use Rattle.search_order.specs.Visits.{handle_at, Reached};
 
-use arrays::listed_sheets::ListedSheet;
+use arrays::{Index, Links};
 use format::limits::MOST_NODES;
 use search_order::{Found, comes_first, pair_of};
 use tree_places::Places;
@@ -73,22 +72,20 @@ fn search_row(
     best
 }
 
-// The first of what was found before and all candidates of a tree of a listed sheet, given by its places.
+// The first of what was found before and all candidates of a tree that was placed. `index` has the links by node.
 // Cost: a few steps for each pair of its links, and at most 2 log2 nodes of them for each link of the network.
-pub fn search_tree(n: &ListedSheet, p: &Places, tree: u8, before: Found) -> Found
-    requires { PlacesKnown n.now.sheet.layout.nodes p.now }
-    ensures { (t : Tree) (c : Candidate)
-        → Kept (network_of n.now.sheet) t p.now.place p.now.node p.now.stops p.now.links
-        → Prior (ahead fewer_nodes) (network_of n.now.sheet) tree t c → Says before c
-        → Says result (first_from (ahead fewer_nodes) c (tree_candidates (network_of n.now.sheet) tree t)) }
+pub fn search_tree(nodes: usize, links: &Links, index: &Index, p: &Places, tree: u8, before: Found) -> Found
+    requires { Searchable links.now index.now p.now nodes }
+    ensures { (net : Network) (t : Tree) (c : Candidate)
+        → TreeHeld net t links.now index.now p.now nodes → Degrees net index.now.degrees
+        → Prior (ahead fewer_nodes) net tree t c → Says before c
+        → Says result (first_from (ahead fewer_nodes) c (tree_candidates net tree t)) }
 {
-    let nodes = n.sheet.layout.nodes;
-    let index = n.index;
     let mut figures = NO_FIGURES;
     figures.weigh_places(nodes, &p.node, &index.degrees);
     let mut best = before;
     for u in (1..nodes).rev() {
-        figures.make_row(nodes, n.sheet.links, index, p, u);
+        figures.make_row(nodes, links, index, p, u);
         best = search_row(&figures, nodes, &p.stops, &p.links, tree, u, best);
     }
     best

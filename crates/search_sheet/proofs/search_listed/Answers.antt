@@ -6,6 +6,7 @@ use Rattle.cuts.specs.First.{first_from}
 use Rattle.cuts.specs.Network.{Network, tree_at}
 use Rattle.cuts.specs.Candidate.{Candidate, fewer_nodes, ahead}
 use Rattle.arrays.specs.Sheets.{network_of}
+use Rattle.tree_rows.proofs.ListedLaws.{listed-searchable, listed-held}
 use Rattle.search_order.specs.Choice.{Says, Prior, tree_candidates}
 use Rattle.read_sheet.proofs.NetworkLaws.{network_at-trees}
 use Rattle.search_sheet.proofs.ToComeLaws.{trees-start, trees-more, brought_before, trees_done}
@@ -17,7 +18,8 @@ use Rattle.search_sheet.proofs.search_listed.Goals.{After-search_tree-best, Join
 searched : (c : After-search_tree-best) → let l = c.loop-i in let m = network_of c.args.n.now.sheet in let t = tree_at m l.i in
     (d : Candidate) → Prior (ahead fewer_nodes) m l.i t d → Says l.best d → Says c.search_tree-best.result (first_from (ahead fewer_nodes) d (tree_candidates m l.i t))
 searched c d prior says =
-    c.search_tree-best.ensures _ d c.place_record-p.ensures.kept prior says
+    let n = c.args.n.now in
+    c.search_tree-best.ensures _ _ d (listed-held n c.place_record-p.ensures.kept) n.listed.degrees_are prior says
 
 -- the side of what is found: made where the tree brought it, else that of before
 sided : (c : Joined-best-i) → SideKept (network_of c.args.n.now.sheet) c.search_tree-best.result c.if-best-i.side
@@ -33,6 +35,9 @@ sided c =
           l.invariant.0 (searched (goal.at.loop-i-preserved c).After-search_tree-best) w.if-best-i.false in
           subst (SideKept net found) (sym w.side-is) (side_same k.1 k.2 (l.invariant.1 k.0))
     ]
+
+pub search_tree-best-requires : goal.search_tree-best-requires
+search_tree-best-requires c = listed-searchable c.args.n.now c.place_record-p.ensures.places_known
 
 pub loop-i-init : goal.loop-i-init
 loop-i-init c =
