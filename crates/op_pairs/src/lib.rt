@@ -40,7 +40,8 @@ fn write_tree(area: &mut [u64], n: &Sheet, tree: usize)
         sheet: *n,
         index: &index,
     };
-    write_pairs(area, &listed, &rank_record(n, tree));
+    let r = rank_record(n.bytes, n.layout, tree, n.links);
+    write_pairs(area, &listed, &r);
 }
 
 // The same, if the sheet has the tree and the area has room for all its pairs.

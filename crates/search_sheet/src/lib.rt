@@ -29,7 +29,7 @@ pub fn search_listed(n: &ListedSheet) -> Reported
     let mut best = unfound();
     let mut side = [0u64; SIDE_WORDS];
     for i in 0..n.sheet.layout.trees {
-        let p = place_record(&n.sheet, i);
+        let p = place_record(n.sheet.bytes, n.sheet.layout, i, n.sheet.links);
         best = search_tree(nodes, n.sheet.links, n.index, &p, i as u8, best);
         if best.tree as usize == i {
             side = side_of(nodes, &p, best.first, best.second);

@@ -14,7 +14,7 @@ use Rattle.arrays.specs.declared.sheets.Sheet.{Sheet}
 use Rattle.read_sheet.proofs.TreeLaws.{record_inside}
 use Rattle.read_sheet.proofs.NetworkLaws.{network_at-trees, network_at-laid, links_known}
 use Rattle.by_node.specs.Index.{Indexable, LinksIndexed}
-use Rattle.sheet_trees.specs.Trees.{RecordThere}
+use Rattle.sheet_trees.specs.Trees.{RecordThere, TreeListed}
 
 pub record_there : {f : Format} {s : Bytes} {ends : List (List ℕ)} {ws : List ℕ} {l : Layout} → SheetHeld f s ends ws l → (i : ℕ) → i < l.trees → RecordThere s l i
 record_there {s = s} {l = l} h i b = record {
@@ -25,6 +25,9 @@ record_there {s = s} {l = l} h i b = record {
 module _ (n : Sheet) where
   pub is-listed : (i : ℕ) → i < n.layout.trees → i < length (network_of n).trees
   is-listed i b = omega (arith, network_at-trees n.held)
+
+  pub tree_listed : (i : ℕ) → i < n.layout.trees → TreeListed n.bytes.now n.links.now n.layout i
+  tree_listed i b = record { weights = n.links.now.weights; held = n.held; listed = b }
 
   pub sheet-indexable : Indexable n.links.now n.layout.nodes n.layout.links
   sheet-indexable = let k = links_known n.held in record { few_nodes = k.few_nodes; few_links = k.few_links; ends_known = k.known }

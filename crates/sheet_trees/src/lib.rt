@@ -1,13 +1,13 @@
 // The links of a sheet that was read, by node, and its trees, each made from its record: its link map, its places and its ranks.
 #![tactic(auto)]
 
-ghost use Rattle.std.specs.Prelude.{◌≡◌, ◌<◌};
+ghost use Rattle.std.specs.Prelude.{◌≡◌};
 ghost use Rattle.arrays.specs.Records.{record_of, map_at};
 ghost use Rattle.arrays.specs.Sheets.{SheetListed};
-ghost use Rattle.sheet_trees.specs.Trees.{TreePlaced, TreeRanked};
+ghost use Rattle.sheet_trees.specs.Trees.{RecordThere, TreeListed, TreePlaced, TreeRanked};
 
-use arrays::Index;
 use arrays::sheets::Sheet;
+use arrays::{Index, Layout, Links};
 use by_node::index_links;
 use read_sheet::tree_records::{grow_tree, record_at, tree_map};
 use tree_places::{Places, place_tree};
@@ -21,30 +21,29 @@ pub fn index_sheet(index: &mut Index, n: &Sheet)
 }
 
 // The link map of a tree.
-pub fn map_of<'a>(n: &Sheet<'a>, tree: usize) -> &'a [u8]
-    requires { tree < n.now.layout.trees }
-    ensures { result.now
-        ≡ map_at n.now.bytes.now (record_of n.now.layout tree) n.now.layout.links }
+pub fn map_of(bytes: &[u8], layout: Layout, tree: usize) -> &[u8]
+    requires { RecordThere bytes.now layout tree }
+    ensures { result.now ≡ map_at bytes.now (record_of layout tree) layout.links }
 {
-    let l = n.layout;
-    tree_map(n.bytes, record_at(l.records, l.links, tree), l.links)
+    let at = record_at(layout.records, layout.links, tree);
+    tree_map(bytes, at, layout.links)
 }
 
 // A tree by its places, grown from its record.
-pub fn place_record(n: &Sheet, tree: usize) -> Places
-    requires { tree < n.now.layout.trees }
-    ensures { TreePlaced n.now tree result }
+pub fn place_record(bytes: &[u8], layout: Layout, tree: usize, links: &Links) -> Places
+    requires { TreeListed bytes.now links.now layout tree }
+    ensures { TreePlaced bytes.now links.now layout tree result }
 {
-    let l = n.layout;
-    let grown = grow_tree(map_of(n, tree), l.nodes, l.links, n.links);
-    place_tree(l.nodes, &grown.unwrap())
+    let map = map_of(bytes, layout, tree);
+    let grown = grow_tree(map, layout.nodes, layout.links, links);
+    place_tree(layout.nodes, &grown.unwrap())
 }
 
 // A tree by its places and ranks.
-pub fn rank_record(n: &Sheet, tree: usize) -> Ranked
-    requires { tree < n.now.layout.trees }
-    ensures { TreeRanked n.now tree result }
+pub fn rank_record(bytes: &[u8], layout: Layout, tree: usize, links: &Links) -> Ranked
+    requires { TreeListed bytes.now links.now layout tree }
+    ensures { TreeRanked bytes.now links.now layout tree result }
 {
-    let l = n.layout;
-    rank_places(l.nodes, l.links, place_record(n, tree))
+    let p = place_record(bytes, layout, tree, links);
+    rank_places(layout.nodes, layout.links, p)
 }

@@ -1,11 +1,16 @@
 -- `op_pairs::write_tree` meets its contract: the links are listed by node, and the tree is ranked from its record. Assumes nothing.
+use Rattle.sheet_trees.proofs.TreeLaws.{tree_listed}
 use Rattle.pair_rows.proofs.WritingLaws.{ranks-apart}
 use Rattle.op_pairs.proofs.write_tree.Goals as goal
 
+pub rank_record-r-requires : goal.rank_record-r-requires
+rank_record-r-requires c = tree_listed c.args.n.now c.args.tree c.requires.listed
+
 pub write_pairs-requires : goal.write_pairs-requires
 write_pairs-requires c =
-    let r = c.rank_record.ensures in
-    record { places_known = r.places_known; apart = ranks-apart r.ranked.ranks; room = c.requires.room }
+    let n = c.args.n.now in
+    let r = c.rank_record-r.ensures in
+    record { places_known = r.places_known; apart = ranks-apart (r.ranked n.links.now.weights n.held).ranks; room = c.requires.room }
 
 pub returns : goal.returns
-returns c = c.write_pairs.ensures _ c.rank_record.ensures.ranked
+returns c = let n = c.args.n.now in c.write_pairs.ensures _ (c.rank_record-r.ensures.ranked n.links.now.weights n.held)

@@ -9,21 +9,20 @@ use Rattle.sheet_trees.proofs.rank_record.Goals as goal
 
 pub rank_places-requires : goal.rank_places-requires
 rank_places-requires c =
-    let h = c.args.n.now.held in
-    let k = c.place_record.ensures.kept in
-    let l = links_known h in
+    let p = c.requires in
+    let k = c.place_record-p.ensures.kept p.weights p.held in
+    let l = links_known p.held in
     record {
       few_nodes = l.few_nodes;
       few_links = l.few_links;
-      is_link = λ q z b. let m = (k.links-at.member q z b).is_link in omega (arith, network_at-links h);
+      is_link = λ q z b. let m = (k.links-at.member q z b).is_link in omega (arith, network_at-links p.held);
     }
 
 pub returns : goal.returns
 returns c =
-    let n = c.args.n.now in
-    let placed = c.place_record.ensures in
+    let placed = c.place_record-p.ensures in
     let r = c.rank_places.ensures in
     record {
-      places_known = subst (PlacesKnown n.layout.nodes) (sym r.same_places) placed.places_known;
-      ranked = r.ranked _ _ placed.kept refl (network_at-links n.held);
+      places_known = subst (PlacesKnown c.args.layout.nodes) (sym r.same_places) placed.places_known;
+      ranked = λ ws h. r.ranked _ _ (placed.kept ws h) refl (network_at-links h);
     }
