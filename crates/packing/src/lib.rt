@@ -1,4 +1,5 @@
 // The packing bound: which trees count, the load that they put on each link, and the floor and the verdict that follow.
+// Bytes, layout and weights are given one by one, and not as a `Sheet`: the floor is of any network with these weights, as docs/TRUST.md says.
 #![tactic(auto)]
 
 ghost use Rattle.std.specs.Prelude.{◌≡◌, ◌*◌, ◌≤◌, min, drop};

@@ -1,4 +1,5 @@
 // Marks the candidates of one tree that weigh no more than a limit, all of them, in a table of bits, by the ranks of their links.
+// Links and index are given one by one, and not as a listed sheet: what is marked is of any network, as docs/TRUST.md says.
 #![tactic(auto)]
 
 ghost use Rattle.std.specs.Prelude.{◌≡◌, List, ℕ, ◌+◌, leb};

@@ -1,4 +1,5 @@
 // Searches the candidates of one tree by rows: from the last place down, the link at each place alone, then with each one behind it.
+// Links and index are given one by one, and not as a listed sheet: the search is of any network, as docs/TRUST.md says.
 #![tactic(auto)]
 
 ghost use Rattle.std.specs.Prelude.{◌≡◌, List, ℕ, ◌+◌, ◌<◌};

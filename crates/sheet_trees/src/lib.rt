@@ -1,4 +1,5 @@
 // The links of a sheet that was read, by node, and its trees, each made from its record: its link map, its places and its ranks.
+// A tree's bytes, layout and links are given one by one, and not as a `Sheet`, since they hold with whatever weights: docs/TRUST.md.
 #![tactic(auto)]
 
 ghost use Rattle.std.specs.Prelude.{◌≡◌};

@@ -1,4 +1,5 @@
 // The sides of one tree that cross at most two members of another, struck out of a table of its cells.
+// The other tree is given by its map and the links, and not by its number in a sheet: the network may be any, as docs/TRUST.md says.
 #![tactic(auto)]
 
 ghost use Rattle.std.specs.Prelude.{◌≡◌, ◌<◌, Bool, ◌&&◌, not, length, leb};
