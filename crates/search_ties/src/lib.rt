@@ -61,7 +61,14 @@ fn mark_row(
 // Marks in the table, which has no bit set, exactly those candidates of a tree that weigh no more than the limit. `index` has the links by node.
 // Cost: as that of `search_tree`. The loop over the rows stands in both, and in `write_pairs`: as one function it would take what is done with a
 // row as a closure, with a clause on what each closure changes, and be longer than the three.
-pub fn mark_ties(table: &mut [u64; TABLE], nodes: usize, links: &Links, index: &Index, r: &Ranked, limit: u64)
+pub fn mark_ties(
+    table: &mut [u64; TABLE],
+    nodes: usize,
+    links: &Links,
+    index: &Index,
+    r: &Ranked,
+    limit: u64,
+)
     requires { Markable table.old links.now index.now r.now nodes }
     ensures { (net : Network) (t : Tree)
         → TreeHeld net t links.now index.now r.now.places nodes → RanksOf net t r.now.places.links r.now.at r.now.rank

@@ -75,7 +75,14 @@ fn search_row(
 
 // The first of what was found before and all candidates of a tree that was placed. `index` has the links by node.
 // Cost: a few steps for each pair of its links, and at most 2 log2 nodes of them for each link of the network.
-pub fn search_tree(nodes: usize, links: &Links, index: &Index, p: &Places, tree: u8, before: Found) -> Found
+pub fn search_tree(
+    nodes: usize,
+    links: &Links,
+    index: &Index,
+    p: &Places,
+    tree: u8,
+    before: Found,
+) -> Found
     requires { Searchable links.now index.now p.now nodes }
     ensures { (net : Network) (t : Tree) (c : Candidate)
         → TreeHeld net t links.now index.now p.now nodes → Degrees net index.now.degrees
