@@ -9,7 +9,7 @@ ghost use Rattle.sheet.specs.Sheet.{current, decode};
 ghost use Rattle.sheet.specs.Areas.{report_widths, handle_of, answer_of, answer_read};
 ghost use Rattle.write_areas.specs.ReportFields.{values_of};
 ghost use Rattle.print_text.specs.Decimal.{decimal};
-ghost use Rattle.print_text.specs.Line.{space, fields_text, line, PutIn, in_room};
+ghost use Rattle.print_text.specs.Line.{space, fields_text, line, PutIn, rest_of, in_room};
 ghost use Rattle.print_report.specs.Output.{answer_word, side_word, second_field, answer_fields, answer_lines, output, most_output};
 
 use format::limits::{MOST_NODES, REPORT_LENGTH, SIDE_LENGTH};
@@ -40,7 +40,7 @@ fn read_report(area: &[u8; REPORT_LENGTH]) -> Report
 // Prints the field of the second link.
 #[tactic(auto, using(print_text::proofs::DecimalLaws::few_digits))]
 fn put_second(printer: &mut Printer, second: u16)
-    requires { 6 ≤ length printer.old.rest }
+    requires { 6 ≤ length (rest_of printer.old) }
     ensures { (e : ℕ)
         → PutIn 6 printer.old (space ∷ second_field (handle_of e second)) printer.new }
 {
@@ -54,7 +54,7 @@ fn put_second(printer: &mut Printer, second: u16)
 // Prints the line of a report.
 #[tactic(auto, using(print_text::proofs::DecimalLaws::few_digits))]
 fn answer_line(printer: &mut Printer, r: Report)
-    requires { 75 ≤ length printer.old.rest }
+    requires { 75 ≤ length (rest_of printer.old) }
     ensures { PutIn 75 printer.old
         (line answer_word (answer_fields (answer_of (values_of r) []))) printer.new }
 {
@@ -71,7 +71,7 @@ fn answer_line(printer: &mut Printer, r: Report)
 
 // Prints the numbers of the nodes in a side.
 fn put_nodes(printer: &mut Printer, side: &[u8; SIDE_LENGTH])
-    requires { 914 ≤ length printer.old.rest }
+    requires { 914 ≤ length (rest_of printer.old) }
     ensures { PutIn 914 printer.old
         (fields_text (map decimal (select most_nodes (map_bit side.now)))) printer.new }
 {
@@ -84,7 +84,7 @@ fn put_nodes(printer: &mut Printer, side: &[u8; SIDE_LENGTH])
 
 // Prints the line of a side.
 fn side_line(printer: &mut Printer, side: &[u8; SIDE_LENGTH])
-    requires { 919 ≤ length printer.old.rest }
+    requires { 919 ≤ length (rest_of printer.old) }
     ensures { PutIn 919 printer.old
         (line side_word (map decimal (select most_nodes (map_bit side.now)))) printer.new }
 {
@@ -95,7 +95,7 @@ fn side_line(printer: &mut Printer, side: &[u8; SIDE_LENGTH])
 
 // Prints both lines of an answer that stands in the two areas.
 fn answer_lines(printer: &mut Printer, side: &[u8; SIDE_LENGTH], report: &[u8; REPORT_LENGTH])
-    requires { most_output ≤ length printer.old.rest }
+    requires { most_output ≤ length (rest_of printer.old) }
     ensures { PutIn most_output printer.old
         (answer_lines (answer_read current most_nodes side.now report.now)) printer.new }
 {
@@ -105,7 +105,7 @@ fn answer_lines(printer: &mut Printer, side: &[u8; SIDE_LENGTH], report: &[u8; R
 
 // Prints what the report program prints for a sheet. It reads a sheet as C does, and has the number that C has.
 fn put_output(printer: &mut Printer, sheet: &[u8])
-    requires { most_output ≤ length printer.old.rest }
+    requires { most_output ≤ length (rest_of printer.old) }
     ensures { PutIn most_output printer.old
         (output current (decode current sheet.now)) printer.new }
 {

@@ -3,7 +3,7 @@
 
 ghost use Rattle.std.specs.Prelude.{◌≡◌, ◌≤◌, ◌<◌, length};
 ghost use Rattle.pairs.specs.Slots.{row_start};
-ghost use Rattle.print_text.specs.Line.{PutIn, in_room};
+ghost use Rattle.print_text.specs.Line.{PutIn, rest_of, in_room};
 ghost use Rattle.print_rows.specs.Output.{row_line, output, most_line, most_output};
 
 use print_text::{Printer, print_in_room};
@@ -18,7 +18,7 @@ pub const MOST_OUTPUT: usize = ROWS * MOST_LINE;
 // Prints the line of a rank.
 #[tactic(auto, using(print_text::proofs::DecimalLaws::few_digits))]
 fn row_line(printer: &mut Printer, rank: usize)
-    requires room { most_line ≤ length printer.old.rest }
+    requires room { most_line ≤ length (rest_of printer.old) }
     requires ranked { rank < 255 }
     ensures { PutIn most_line printer.old (row_line (row_start rank)) printer.new }
 {
@@ -28,7 +28,7 @@ fn row_line(printer: &mut Printer, rank: usize)
 
 // Prints what the program prints.
 fn put_output(printer: &mut Printer)
-    requires { most_output ≤ length printer.old.rest }
+    requires { most_output ≤ length (rest_of printer.old) }
     ensures { PutIn most_output printer.old output printer.new }
 {
     for rank in 0..ROWS {

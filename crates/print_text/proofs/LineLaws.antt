@@ -1,23 +1,43 @@
 -- Text that is printed behind other text is the two printed as one. So fields behind fields are all of them, and a keyword, fields and a line
 -- feed are a line. Assumes nothing.
-use Prim.Native.Nat.{ℕ, ◌+◌, ◌≤◌}
+use Prim.Native.Nat.{ℕ, ◌+◌, ◌≤◌, ◌<◌}
+use native.Mathlib.Numerals.{add-one}
 use native.Mathlib.Omega.{arith}
-use mathlib.Core.Path.{◌≡◌, refl, sym, ap, ◌∙◌, subst}
+use mathlib.Core.Path.{◌≡◌, refl, sym, ap, ap₂, ◌∙◌, subst}
 use mathlib.Core.List.{List, [], ◌∷◌, ◌++◌, append-nil, append_assoc}
-use lib.ListN.{length, length-append, drop}
-use lib.Seq.{drop-drop}
+use lib.ListN.{length, length-append, length-set, set, take, drop}
+use lib.Seq.{drop-drop, drop-set-lt, take-suc, take-set-le, get_or-set_same}
 use Rattle.print_text.specs.Decimal.{Text}
-use Rattle.print_text.specs.Line.{space, line_feed, fields_text, line, Printed, Put, PutIn}
+use Rattle.print_text.specs.Line.{space, line_feed, fields_text, line, Printed, text_of, rest_of, Put, PutFrom, PutIn}
 
 pub put-put : {old mid new : Printed} {a b : Text} → Put old a mid → Put mid b new → Put old (a ++ b) new
 put-put {old} {mid} {new} {a} {b} h k = record {
-  text_is = k.text_is ∙ ap (λ (t : Text). t ++ b) h.text_is ∙ append_assoc old.text a b;
+  text_is = k.text_is ∙ ap (λ (t : Text). t ++ b) h.text_is ∙ append_assoc (text_of old) a b;
   room_is = omega (arith, h.room_is, k.room_is, length-append a b);
-  rest_is = k.rest_is ∙ ap (drop (length b)) h.rest_is ∙ drop-drop (length b) (length a) old.rest ∙ sym (ap (λ (n : ℕ). drop n old.rest) (length-append a b));
+  rest_is = k.rest_is ∙ ap (drop (length b)) h.rest_is ∙ drop-drop (length b) (length a) (rest_of old) ∙ sym (ap (λ (n : ℕ). drop n (rest_of old)) (length-append a b));
+  same_buffer = k.same_buffer ∙ h.same_buffer;
 }
 
+-- text that is written from a position on, and one more byte behind it
+pub put_from-byte : {old mid text : Text} {at end : ℕ} (byte : ℕ) → PutFrom old at text mid end → end < length mid → PutFrom old at (text ++ byte ∷ []) (set mid end byte) (end + 1)
+put_from-byte {old} {mid} {text} {at} {end} byte h b =
+    let s : Text = set mid end byte in
+    record {
+      end_is = omega (arith, h.end_is, length-append text (byte ∷ []));
+      same_length = length-set mid end byte ∙ h.same_length;
+      text_is =
+          ap (λ (n : ℕ). take n s) (add-one end) ∙ take-suc s end 0 (rw (length-set mid end byte) b)
+          ∙ ap₂ (λ (front : Text) (last : ℕ). front ++ last ∷ []) (take-set-le end mid end byte (omega arith) ∙ h.text_is) (get_or-set_same mid end byte 0 b)
+          ∙ append_assoc (take at old) text (byte ∷ []);
+      rest_is =
+          drop-set-lt (end + 1) mid end byte (omega arith) ∙ sym (drop-drop 1 end mid) ∙ ap (drop 1) h.rest_is ∙ drop-drop 1 end old;
+    }
+
+pub put_from-nothing : (old : Text) (at : ℕ) → PutFrom old at [] old at
+put_from-nothing old at = record { end_is = omega arith; same_length = refl; text_is = sym (append-nil (take at old)); rest_is = refl }
+
 pub put-nothing : (old : Printed) → Put old [] old
-put-nothing old = record { text_is = sym (append-nil old.text); room_is = omega arith; rest_is = refl }
+put-nothing old = record { text_is = sym (append-nil (text_of old)); room_is = omega arith; rest_is = refl; same_buffer = refl }
 
 fields_text-append : (fs gs : List Text) → fields_text (fs ++ gs) ≡ fields_text fs ++ fields_text gs
 unfolding fields_text
@@ -43,6 +63,9 @@ put-more {old} {mid} {new} fs {f} {few} {most} h k e =
     subst (λ (t : Text). PutIn most old t new)
     (sym (fields_text-append fs (f ∷ []) ∙ ap (λ (t : Text). fields_text fs ++ space ∷ t) (append-nil f)))
     (record { put = put-put h.put k; few = omega (arith, h.few, length-append (fields_text fs) (space ∷ f)) })
+
+pub put-fields : {old mid new : Printed} (fs gs : List Text) → Put old (fields_text fs) mid → Put mid (fields_text gs) new → Put old (fields_text (fs ++ gs)) new
+put-fields {old} {new = new} fs gs h k = subst (λ (t : Text). Put old t new) (sym (fields_text-append fs gs)) (put-put h k)
 
 -- how many bytes the fields take
 abbrev pub fields_length : List Text → ℕ

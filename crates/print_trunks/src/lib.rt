@@ -5,7 +5,7 @@ ghost use Rattle.std.specs.Prelude.{◌≡◌, ◌≤◌, ◌<◌, length};
 ghost use Rattle.cuts.specs.Limits.{most_links};
 ghost use Rattle.sheet.specs.Sheet.{current};
 ghost use Rattle.sheet.specs.Trunks.{trunks};
-ghost use Rattle.print_text.specs.Line.{PutIn, in_room};
+ghost use Rattle.print_text.specs.Line.{PutIn, rest_of, in_room};
 ghost use Rattle.print_trunks.specs.Output.{link_line, lines_from, output, most_line, most_output};
 
 use format::limits::MOST_LINKS;
@@ -22,7 +22,7 @@ pub const MOST_OUTPUT: usize = MOST_LINKS * MOST_LINE;
 // Prints the line of a link.
 #[tactic(auto, using(print_text::proofs::DecimalLaws::few_digits))]
 fn link_line(printer: &mut Printer, link: usize, trunk: u16)
-    requires room { most_line ≤ length printer.old.rest }
+    requires room { most_line ≤ length (rest_of printer.old) }
     requires numbered { link < most_links }
     ensures { PutIn most_line printer.old (link_line link trunk) printer.new }
 {
@@ -33,7 +33,7 @@ fn link_line(printer: &mut Printer, link: usize, trunk: u16)
 
 // Prints the lines of the links that have these trunk numbers.
 fn link_lines(printer: &mut Printer, numbers: &[u16])
-    requires room { most_output ≤ length printer.old.rest }
+    requires room { most_output ≤ length (rest_of printer.old) }
     requires few { length numbers.now ≤ most_links }
     ensures { PutIn most_output printer.old (lines_from 0 numbers.now) printer.new }
 {
@@ -44,7 +44,7 @@ fn link_lines(printer: &mut Printer, numbers: &[u16])
 
 // Prints what the program prints for a sheet.
 fn put_output(printer: &mut Printer, sheet: &[u8])
-    requires { most_output ≤ length printer.old.rest }
+    requires { most_output ≤ length (rest_of printer.old) }
     ensures { PutIn most_output printer.old (output (trunks current sheet.now)) printer.new }
 {
     let mut numbers = [0u16; MOST_LINKS];
