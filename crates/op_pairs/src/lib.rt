@@ -11,7 +11,6 @@ ghost use Rattle.arrays.specs.Sheets.{network_of};
 ghost use Rattle.pair_rows.specs.Writing.{PairsLeft};
 ghost use Rattle.op_pairs.specs.Areas.{NodesCounted, TreeWritable, AreaLeft};
 
-use arrays::listed_sheets::ListedSheet;
 use arrays::sheets::Sheet;
 use arrays::{Links, NO_INDEX};
 use format::refusals::Refusal;
@@ -36,12 +35,8 @@ fn write_tree(area: &mut [u64], n: &Sheet, tree: usize)
 {
     let mut index = NO_INDEX;
     index_sheet(&mut index, n);
-    let listed = ListedSheet {
-        sheet: *n,
-        index: &index,
-    };
     let r = rank_record(n.bytes, n.layout, tree, n.links);
-    write_pairs(area, &listed, &r);
+    write_pairs(area, n.layout.nodes, n.links, &index, &r);
 }
 
 // The same, if the sheet has the tree and the area has room for all its pairs.

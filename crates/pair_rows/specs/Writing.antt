@@ -7,7 +7,8 @@
 --                                       row u, column v, at the slot of their ranks
 --   BehindPairs n xs ys                 ys is as long as xs and has what xs has behind the last pair of n nodes
 --   RowWritten ..                       ys, that was xs, has the row of u too, and what it had behind the last pair
---   PairsWritable xs n r                the numbers xs have room for all pairs of a tree of n nodes, and the ranked tree's places are known
+--   PairsWritable xs ls x n r           the numbers xs have room for all pairs of a tree of n nodes, and the ranked tree r can be gone through by
+--                                       rows, by the links ls and the index x
 --   PairsLeft net t xs ys               xs became ys: the weights of all pairs of the tree are written to its front
 use Rattle.std.specs.Prelude.{ℕ, suc, ◌+◌, ◌-◌, ◌≤◌, ◌<◌, min, max, ◌≡◌, List, length}
 use Rattle.cuts.specs.Network.{Network, Tree}
@@ -17,9 +18,11 @@ use Rattle.pairs.specs.Slots.{row_start, pair_slot, row_starts}
 use Rattle.pairs.specs.Pairs.{pair_weights}
 use Rattle.arrays.specs.Lists.{entry}
 use Rattle.search_order.specs.Visits.{handle_at, passed}
+use Rattle.arrays.specs.declared.Index.{Index}
+use Rattle.arrays.specs.declared.Links.{Links}
 use Rattle.tree_rows.specs.declared.Figures.{Figures}
 use Rattle.tree_ranks.specs.declared.Ranked.{Ranked}
-use Rattle.tree_rows.specs.Making.{PlacesKnown}
+use Rattle.tree_rows.specs.Making.{Searchable}
 use Rattle.tree_rows.specs.Reading.{RowHeld, RowAt}
 
 abbrev pub slot_of_ranks : ℕ → ℕ → ℕ
@@ -57,8 +60,8 @@ pub record RowWritten (figures : Figures) (stops rank : List ℕ) (nodes u : ℕ
 
 -- ---- a whole tree
 
-pub record PairsWritable (area : List ℕ) (nodes : ℕ) (r : Ranked) : Type 0 where
-  pub places_known : PlacesKnown nodes r.places
+pub record PairsWritable (area : List ℕ) (links : Links) (index : Index) (nodes : ℕ) (r : Ranked) : Type 0 where
+  pub searchable : Searchable links index r.places nodes
   pub apart : RanksApart r.rank nodes
   pub room : row_start (nodes - 1) ≤ length area
 

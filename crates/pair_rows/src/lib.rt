@@ -2,12 +2,13 @@
 #![tactic(auto)]
 
 ghost use Rattle.std.specs.Prelude.{◌≡◌, List, ℕ};
-ghost use Rattle.cuts.specs.Network.{Tree};
-ghost use Rattle.arrays.specs.Sheets.{network_of};
-ghost use Rattle.tree_ranks.specs.Ranks.{RankedTree};
+ghost use Rattle.cuts.specs.Network.{Network, Tree};
+ghost use Rattle.arrays.specs.ByNode.{Degrees};
+ghost use Rattle.tree_rows.specs.Making.{TreeHeld};
+ghost use Rattle.tree_ranks.specs.Ranks.{RanksOf};
 ghost use Rattle.pair_rows.specs.Writing.{slot_of_ranks, Slotted, RowWritable, RowWritten, PairsWritable, PairsLeft};
 
-use arrays::listed_sheets::ListedSheet;
+use arrays::{Index, Links};
 use format::limits::MOST_NODES;
 use row_starts::{ROWS, row_starts};
 use tree_ranks::Ranked;
@@ -45,21 +46,22 @@ fn write_row(
     }
 }
 
-// Writes the weights of all pairs of a tree of a listed sheet to the front of the area, each at its slot.
+// Writes the weights of all pairs of a tree to the front of the area, each at its slot. `index` has the links by node. Links and index are given
+// one by one, and not as a listed sheet: the pairs are of any network, as in `mark_ties`.
 // Cost: as that of `search_tree`.
-pub fn write_pairs(area: &mut [u64], n: &ListedSheet, r: &Ranked)
-    requires { PairsWritable area.old n.now.sheet.layout.nodes r.now }
-    ensures { (t : Tree) → RankedTree (network_of n.now.sheet) t r.now
-        → PairsLeft (network_of n.now.sheet) t area.old area.new }
+pub fn write_pairs(area: &mut [u64], nodes: usize, links: &Links, index: &Index, r: &Ranked)
+    requires { PairsWritable area.old links.now index.now nodes r.now }
+    ensures { (net : Network) (t : Tree) (by_place : List ℕ)
+        → TreeHeld net t links.now index.now r.now.places by_place nodes → RanksOf net t by_place r.now.at r.now.rank
+        → Degrees net index.now.degrees
+        → PairsLeft net t area.old area.new }
 {
-    let nodes = n.sheet.layout.nodes;
-    let index = n.index;
     let p = &r.places;
     let starts = row_starts();
     let mut figures = NO_FIGURES;
     figures.weigh_places(nodes, &p.node, &index.degrees);
     for u in (1..nodes).rev() {
-        figures.make_row(nodes, n.sheet.links, index, p, u);
+        figures.make_row(nodes, links, index, p, u);
         write_row(area, &figures, nodes, &p.stops, &r.rank, &starts, u);
     }
 }

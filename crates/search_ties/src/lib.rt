@@ -70,8 +70,8 @@ pub fn mark_ties(
     limit: u64,
 )
     requires { Markable table.old links.now index.now r.now nodes }
-    ensures { (net : Network) (t : Tree)
-        → TreeHeld net t links.now index.now r.now.places nodes → RanksOf net t r.now.places.links r.now.at r.now.rank
+    ensures { (net : Network) (t : Tree) (by_place : List ℕ)
+        → TreeHeld net t links.now index.now r.now.places by_place nodes → RanksOf net t by_place r.now.at r.now.rank
         → Degrees net index.now.degrees
         → Tabled net t (λ h. leb (weight_of net t h) limit) table.new }
 {

@@ -85,7 +85,7 @@ pub fn search_tree(
 ) -> Found
     requires { Searchable links.now index.now p.now nodes }
     ensures { (net : Network) (t : Tree) (c : Candidate)
-        → TreeHeld net t links.now index.now p.now nodes → Degrees net index.now.degrees
+        → TreeHeld net t links.now index.now p.now p.now.links nodes → Degrees net index.now.degrees
         → Prior (ahead fewer_nodes) net tree t c → Says before c
         → Says result (first_from (ahead fewer_nodes) c (tree_candidates net tree t)) }
 {

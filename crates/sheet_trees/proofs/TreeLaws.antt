@@ -6,10 +6,12 @@ use native.Mathlib.Omega.{arith}
 use lib.ListN.{length}
 use Rattle.sheet.specs.Bytes.{Bytes}
 use Rattle.sheet.specs.Sheet.{Format, tree_length}
+use Rattle.arrays.specs.Links.{ends_of}
 use Rattle.arrays.specs.Records.{SheetHeld}
 use Rattle.arrays.specs.Sheets.{network_of, SheetListed}
 use Rattle.arrays.specs.declared.Index.{Index}
 use Rattle.arrays.specs.declared.Layout.{Layout}
+use Rattle.arrays.specs.declared.Links.{Links}
 use Rattle.arrays.specs.declared.sheets.Sheet.{Sheet}
 use Rattle.read_sheet.proofs.TreeLaws.{record_inside}
 use Rattle.read_sheet.proofs.NetworkLaws.{network_at-trees, network_at-laid, links_known}
@@ -22,6 +24,9 @@ record_there {s = s} {l = l} h i b = record {
   inside = record_inside l.records l.trees (tree_length l.links) (length s) i h.inside b;
 }
 
+pub sheet_indexable : {f : Format} {s : Bytes} {links : Links} {l : Layout} → SheetHeld f s (ends_of links) links.weights l → Indexable links l.nodes l.links
+sheet_indexable h = let k = links_known h in record { few_nodes = k.few_nodes; few_links = k.few_links; ends_known = k.known }
+
 module _ (n : Sheet) where
   pub is-listed : (i : ℕ) → i < n.layout.trees → i < length (network_of n).trees
   is-listed i b = omega (arith, network_at-trees n.held)
@@ -30,7 +35,7 @@ module _ (n : Sheet) where
   tree_listed i b = record { weights = n.links.now.weights; held = n.held; listed = b }
 
   pub sheet-indexable : Indexable n.links.now n.layout.nodes n.layout.links
-  sheet-indexable = let k = links_known n.held in record { few_nodes = k.few_nodes; few_links = k.few_links; ends_known = k.known }
+  sheet-indexable = sheet_indexable n.held
 
   pub sheet-listed : {index : Index} → LinksIndexed n.links.now index n.layout.nodes n.layout.links → SheetListed n index
   sheet-listed i =

@@ -2,8 +2,8 @@
 --   RecordThere s l i         the record of tree i stands in s where the layout l says
 --   TreeListed s links l i    sheet and links hold a network, whatever its weights, and i is the number of one of its trees
 --   TreePlaced s links l i r  r has tree i by places, of every network that sheet and links hold, whatever its weights
---   TreeRanked s links l i r  r has tree i by places and ranks, of every such network
-use Rattle.std.specs.Prelude.{ℕ, ◌+◌, ◌≤◌, ◌<◌, List, length}
+--   TreeRanked s links l i r  r has tree i by places and ranks, of every such network, with the link at each place
+use Rattle.std.specs.Prelude.{ℕ, ◌+◌, ◌≤◌, ◌<◌, ◌≡◌, List, length}
 use Rattle.cuts.specs.Network.{tree_at}
 use Rattle.cuts.specs.Limits.{most_links}
 use Rattle.sheet.specs.Bytes.{Bytes}
@@ -36,3 +36,4 @@ pub record TreeRanked (s : Bytes) (links : Links) (l : Layout) (i : ℕ) (r : Ra
   pub places_known : PlacesKnown l.nodes r.places
   pub ranked : (ws : List ℕ) → SheetHeld current s (ends_of links) ws l
       → RankedTree (network_at s (ends_of links) ws l) (tree_at (network_at s (ends_of links) ws l) i) r
+  pub own_links : (ws : List ℕ) (h : SheetHeld current s (ends_of links) ws l) → (ranked ws h).links ≡ r.places.links

@@ -209,7 +209,7 @@ searchable = record {
   stops_in = λ i b. ltb-true _ (most_nodes + 1) (all_to-at most_nodes (λ i. ltb (entry stops i) (most_nodes + 1)) refl i b);
 }
 
-pub tree_held : TreeHeld small grown held index places 5
+pub tree_held : TreeHeld small grown held index places links 5
 tree_held = record { count = 7; indexed = indexed; kept = kept }
 
 -- ---- all pairs

@@ -1,5 +1,6 @@
 -- A tree of a listed sheet can be gone through by rows, and is held by its links, its index and its places.
 -- Assumes nothing.
+use Rattle.std.proofs.Common.{List, ℕ}
 use Rattle.cuts.specs.Network.{Tree}
 use Rattle.arrays.specs.Kept.{Kept}
 use Rattle.arrays.specs.Sheets.{network_of}
@@ -16,6 +17,6 @@ module _ (n : ListedSheet) {p : Places} where
     stops_in = k.stops_known;
   }
 
-  pub listed-held : {t : Tree} → Kept (network_of n.sheet) t p.place p.node p.stops p.links
-      → TreeHeld (network_of n.sheet) t n.sheet.links.now n.index.now p n.sheet.layout.nodes
+  pub listed-held : {t : Tree} {by_place : List ℕ} → Kept (network_of n.sheet) t p.place p.node p.stops by_place
+      → TreeHeld (network_of n.sheet) t n.sheet.links.now n.index.now p by_place n.sheet.layout.nodes
   listed-held k = record { count = n.sheet.layout.links; indexed = n.listed.indexed; kept = k }

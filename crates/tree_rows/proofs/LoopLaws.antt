@@ -18,10 +18,10 @@ abbrev pub columns_left : ℕ → Option ℕ → ℕ
 columns_left nodes (Some v) = nodes - v
 columns_left nodes None = 0
 
-module _ {net : Network} {t : Tree} {links : Links} {index : Index} {p : Places} {nodes : ℕ} where
-  pub rows_start : (degrees : List ℕ) {figures : Figures} → TreeHeld net t links index p nodes → Degrees net degrees
+module _ {net : Network} {t : Tree} {links : Links} {index : Index} {p : Places} {by_place : List ℕ} {nodes : ℕ} where
+  pub rows_start : (degrees : List ℕ) {figures : Figures} → TreeHeld net t links index p by_place nodes → Degrees net degrees
       → ((q : ℕ) → q < nodes → entry figures.degrees q ≡ entry degrees (entry p.node q))
-      → RowsHeld net t links index p nodes nodes figures
+      → RowsHeld net t links index p by_place nodes nodes figures
   rows_start degrees {figures} h d weighed =
       let n = h.indexed.laid.held.sized in
       record {
@@ -32,12 +32,12 @@ module _ {net : Network} {t : Tree} {links : Links} {index : Index} {p : Places}
 
   -- a row more: what is so of the rows behind x is so of those behind u, the place before x
   pub rows-turn : (X : ℕ → Type 0) {Y : Type 0} {x u : ℕ} {before after : Figures} → 0 < u → x ≡ suc u
-      → (RowsHeld net t links index p nodes (suc u) before → RowsHeld net t links index p nodes u after)
-      → (RowHeld net t p.place p.node p.stops p.links u after → net.nodes ≡ nodes → X (u + 1) → Y)
-      → RowsHeld net t links index p nodes x before × X x
-      → RowsHeld net t links index p nodes u after × Y
+      → (RowsHeld net t links index p by_place nodes (suc u) before → RowsHeld net t links index p by_place nodes u after)
+      → (RowHeld net t p.place p.node p.stops by_place u after → net.nodes ≡ nodes → X (u + 1) → Y)
+      → RowsHeld net t links index p by_place nodes x before × X x
+      → RowsHeld net t links index p by_place nodes u after × Y
   rows-turn X {x = x} {u} {before} z q made more o =
-      let r = made (subst (λ (i : ℕ). RowsHeld net t links index p nodes i before) q o.0) in
+      let r = made (subst (λ (i : ℕ). RowsHeld net t links index p by_place nodes i before) q o.0) in
       let h = r.tree_held in (
         r,
         more (record { light = h.indexed.light; kept = h.kept; row = r.row; some = z }) h.indexed.laid.held.sized

@@ -65,6 +65,15 @@ module _ (from to : ℕ) where
               same false = refl
       go (no b) = sum-zero to _ (λ p c. rw (ne_eqb a p (λ e. omega arith))) ∙ sym (ap (λ (c : Bool). only c w) (within-behind from to a (omega arith)))
 
+pub over-more : (from m n : ℕ) (g : ℕ → ℕ) → m ≤ n → sum_over from m g ≤ sum_over from n g
+unfolding sum_over sum_to
+over-more from m zero g l = let e : m ≡ 0 = omega arith in rw e (omega arith)
+over-more from m (suc n) g l = go (over-more from m n g) (eq-or-lt_of_le l)
+  where
+    go : (m ≤ n → sum_over from m g ≤ sum_over from n g) → (m ≡ suc n) ⊎ (m < suc n) → sum_over from m g ≤ sum_over from (suc n) g
+    go r (inl e) = rw e (omega arith)
+    go r (inr b) = let a = r (omega arith) in omega arith
+
 -- a run cut in two
 pub over_join : (u v s : ℕ) (g : ℕ → ℕ) → u ≤ v → v ≤ s → sum_over u v g + sum_over v s g ≡ sum_over u s g
 over_join u v zero g a b =
@@ -74,3 +83,11 @@ over_join u v (suc s) g a b = go (over_join u v s g a) (eq-or-lt_of_le b)
     go : (v ≤ s → sum_over u v g + sum_over v s g ≡ sum_over u s g) → (v ≡ suc s) ⊎ (v < suc s) → sum_over u v g + sum_over v (suc s) g ≡ sum_over u (suc s) g
     go r (inl e) = let c = over_none v (suc s) g (omega arith) in let d = ap (λ (k : ℕ). sum_over u k g) e in omega arith
     go r (inr l) = let c = over-suc u s g (omega arith) in let d = over-suc v s g (omega arith) in let f = r (omega arith) in omega arith
+
+-- a run as the numbers from its first on
+pub over-shift : (from n : ℕ) (g : ℕ → ℕ) → sum_over from (from + n) g ≡ sum_to n (λ i. g (from + i))
+unfolding sum_to
+over-shift from zero g = over_none from (from + 0) g (omega arith)
+over-shift from (suc n) g =
+    let e : from + suc n ≡ suc (from + n) = omega arith in
+    ap (λ (to : ℕ). sum_over from to g) e ∙ over-suc from (from + n) g (omega arith) ∙ ap (λ (sum : ℕ). sum + g (from + n)) (over-shift from n g)

@@ -9,11 +9,13 @@
 --   RowTallyable links index p nodes u          there may be a place u, and links and places are searchable
 --   RowSummable nodes stop u                    there may be a place u and so many nodes, and the stop does not exceed the most nodes
 --   RowMakeable links index p nodes u           links and places are searchable, and u is a place behind the root's
---   TreeHeld net t links index p nodes          the links are the network's, which has so many nodes, the index lists them, and p keeps its tree
+--   TreeHeld net t links index p by_place nodes
+--                                               the links are the network's, which has so many nodes, the index lists them, and p keeps its tree,
+--                                               where `by_place` has the link at each place
 --   RowStart net place stops u r f              r lies behind u and no later than u's stop, and f has the tally of the places between them
 --   Summable net place degrees tallies stop nodes u
 --                                               the degrees are the network's, and the tallies those of the places from u up to the stop
---   RowsHeld net t links index p nodes u figures
+--   RowsHeld net t links index p by_place nodes u figures
 --                                               what a loop over the rows keeps: the network and its tree are held, and the figures have the
 --                                               degrees and the row of u
 --   BesideDegrees before after                  `after` has the sums, the singles and the tallies of `before`
@@ -75,10 +77,10 @@ pub record RowMakeable (links : Links) (index : Index) (p : Places) (nodes u : �
 
 -- ---- what is said of a network and its tree
 
-pub record TreeHeld (net : Network) (t : Tree) (links : Links) (index : Index) (p : Places) (nodes : ℕ) : Type 0 where
+pub record TreeHeld (net : Network) (t : Tree) (links : Links) (index : Index) (p : Places) (by_place : List ℕ) (nodes : ℕ) : Type 0 where
   pub count : ℕ
   pub indexed : Indexed net links index nodes count
-  pub kept : Kept net t p.place p.node p.stops p.links
+  pub kept : Kept net t p.place p.node p.stops by_place
 
 pub record RowStart (net : Network) (place stops : List ℕ) (u r : ℕ) (f : List ℕ) : Type 0 where
   pub behind : suc u ≤ r
@@ -93,10 +95,10 @@ pub record Summable (net : Network) (place degrees tallies : List ℕ) (stop nod
   pub inside : stop ≤ nodes
   pub sized : net.nodes ≡ nodes
 
-pub record RowsHeld (net : Network) (t : Tree) (links : Links) (index : Index) (p : Places) (nodes u : ℕ) (figures : Figures) : Type 0 where
-  pub tree_held : TreeHeld net t links index p nodes
+pub record RowsHeld (net : Network) (t : Tree) (links : Links) (index : Index) (p : Places) (by_place : List ℕ) (nodes u : ℕ) (figures : Figures) : Type 0 where
+  pub tree_held : TreeHeld net t links index p by_place nodes
   pub degrees : PlaceDegrees net p.place figures.degrees
-  pub row : Row net t p.place p.stops p.links u figures
+  pub row : Row net t p.place p.stops by_place u figures
 
 -- ---- what is left
 

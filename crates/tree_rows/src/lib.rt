@@ -28,13 +28,13 @@ use tree_places::Places;
 #[derive(Drop)]
 pub struct Figures {
     // What crosses the places below the row's link, at all places in front; the last for the place behind the last.
-    sums: [u64; MOST_NODES + 1],
+    pub sums: [u64; MOST_NODES + 1],
     // The weight of the links at each place.
-    degrees: [u64; MOST_NODES],
+    pub degrees: [u64; MOST_NODES],
     // The weight of each link alone, from the row's place on.
     pub singles: [u64; MOST_NODES],
     // The weight of the links between each place and those below the row's link.
-    tallies: [u64; MOST_NODES],
+    pub tallies: [u64; MOST_NODES],
 }
 
 // Figures of which none is made yet.
@@ -48,8 +48,8 @@ pub const NO_FIGURES: Figures = Figures {
 // Adds to the tally of each place the weight of the links between it and node `x`.
 fn add_links(tallies: &mut [u64; MOST_NODES], links: &Links, index: &Index, p: &Places, x: u8)
     requires { LinksAddable links.now index.now x }
-    ensures { (net : Network) (t : Tree) (nodes : ℕ)
-        → TreeHeld net t links.now index.now p.now nodes → x < nodes
+    ensures { (net : Network) (t : Tree) (by_place : List ℕ) (nodes : ℕ)
+        → TreeHeld net t links.now index.now p.now by_place nodes → x < nodes
         → Added net p.now.place (entry p.now.place x) tallies.old tallies.new }
 {
     let from = index.starts[x as usize] as usize;
@@ -71,8 +71,8 @@ fn add_run(
     to: usize,
 )
     requires { RunAddable links.now index.now p.now to }
-    ensures { (net : Network) (t : Tree) (nodes first : ℕ)
-        → TreeHeld net t links.now index.now p.now nodes
+    ensures { (net : Network) (t : Tree) (by_place : List ℕ) (nodes first : ℕ)
+        → TreeHeld net t links.now index.now p.now by_place nodes
         → first ≤ from → from ≤ to → to ≤ nodes
         → Tallied net p.now.place first from tallies.old
         → Tallied net p.now.place first to tallies.new }
@@ -114,8 +114,8 @@ fn tally_row(
     u: usize,
 )
     requires { RowTallyable links.now index.now p.now nodes u }
-    ensures { (net : Network) (t : Tree)
-        → TreeHeld net t links.now index.now p.now nodes
+    ensures { (net : Network) (t : Tree) (by_place : List ℕ)
+        → TreeHeld net t links.now index.now p.now by_place nodes
         → 0 < u → RowTallied net p.now.place p.now.stops (suc u) tallies.old
         → RowTallied net p.now.place p.now.stops u tallies.new }
 {
@@ -170,9 +170,9 @@ impl Figures {
     // Makes the row of `u` from the row of u + 1.
     pub fn make_row(&mut self, nodes: usize, links: &Links, index: &Index, p: &Places, u: usize)
         requires { RowMakeable links.now index.now p.now nodes u }
-        ensures { (net : Network) (t : Tree)
-            → RowsHeld net t links.now index.now p.now nodes (suc u) self.old
-            → RowsHeld net t links.now index.now p.now nodes u self.new }
+        ensures { (net : Network) (t : Tree) (by_place : List ℕ)
+            → RowsHeld net t links.now index.now p.now by_place nodes (suc u) self.old
+            → RowsHeld net t links.now index.now p.now by_place nodes u self.new }
     {
         let stop = p.stops[u] as usize;
         tally_row(&mut self.tallies, nodes, links, index, p, u);

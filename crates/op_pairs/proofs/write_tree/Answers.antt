@@ -10,7 +10,21 @@ pub write_pairs-requires : goal.write_pairs-requires
 write_pairs-requires c =
     let n = c.args.n.now in
     let r = c.rank_record-r.ensures in
-    record { places_known = r.places_known; apart = ranks-apart (r.ranked n.links.now.weights n.held).ranks; room = c.requires.room }
+    let k = r.places_known in
+    record {
+      searchable = record {
+        few_nodes = n.held.accepted.nodes_most;
+        links_listed = (n.layout.links, n.held.few_links, c.index_sheet.ensures.indexed.by_node);
+        nodes_in = k.nodes_known;
+        stops_in = k.stops_known;
+      };
+      apart = ranks-apart (r.ranked n.links.now.weights n.held).ranks;
+      room = c.requires.room;
+    }
 
 pub returns : goal.returns
-returns c = let n = c.args.n.now in c.write_pairs.ensures _ (c.rank_record-r.ensures.ranked n.links.now.weights n.held)
+returns c =
+    let n = c.args.n.now in
+    let listed = c.index_sheet.ensures in
+    let k = c.rank_record-r.ensures.ranked n.links.now.weights n.held in
+    c.write_pairs.ensures _ _ _ (record { count = n.layout.links; indexed = listed.indexed; kept = k.kept }) k.ranks listed.degrees_are

@@ -18,7 +18,7 @@ loop-u-preserved c net t x h d says =
     let a = c.args in
     let p = a.p.now in
     rows-turn (λ u. Reached (ahead fewer_nodes) x net a.tree t p.links u a.nodes l.best) (omega arith) (omega arith)
-    (c.make_row.ensures net t) (c.search_row-best.ensures net t x p.place p.node) (l.invariant net t x h d says)
+    (c.make_row.ensures net t p.links) (c.search_row-best.ensures net t x p.place p.node) (l.invariant net t x h d says)
 
 pub returns : goal.returns
 returns c net t x h d p says =

@@ -11,7 +11,7 @@ use Rattle.search_tree.proofs.search_tree.Given as goal
 
 abbrev pub invariant-loop-u : goal.invariant-loop-u
 invariant-loop-u l =
-    (net : Network) (t : Tree) (c : Candidate) → TreeHeld net t l.links l.index l.p l.nodes → Degrees net l.index.degrees
+    (net : Network) (t : Tree) (c : Candidate) → TreeHeld net t l.links l.index l.p l.p.links l.nodes → Degrees net l.index.degrees
     → Says l.initial.best c
-    → RowsHeld net t l.links l.index l.p l.nodes l.u l.figures
+    → RowsHeld net t l.links l.index l.p l.p.links l.nodes l.u l.figures
     × Reached (ahead fewer_nodes) c net l.tree t l.p.links l.u l.nodes l.best

@@ -25,4 +25,5 @@ returns c =
     record {
       places_known = subst (PlacesKnown c.args.layout.nodes) (sym r.same_places) placed.places_known;
       ranked = λ ws h. r.ranked _ _ (placed.kept ws h) refl (network_at-links h);
+      own_links = λ ws h. r.own_links _ _ (placed.kept ws h) refl (network_at-links h);
     }

@@ -57,7 +57,7 @@ loop-k-preserved c =
     (λ y. ap (λ (z : ℕ). only (eqb (entry a.p.now.place z) y) (entry a.links.now.weights k)) (sym c.far_end.ensures)) refl
 
 pub returns : goal.returns
-returns c net t nodes h b = record {
+returns c net t _ nodes h b = record {
   is = λ y _ m.
       let a = c.args in
       let q = c.requires in

@@ -20,12 +20,12 @@ add_links-requires c =
     record { nodes = c.args.nodes; node_in = q.nodes_in c.args.u c.requires.place_in; links_listed = q.links_listed }
 
 pub returns : goal.returns
-returns c net t h z before b =
+returns c net t by_place h z before b =
     let u = c.args.u in
     let k = h.kept in
     let n = h.indexed.laid.held.sized in
     let y = k.taken u b in
     let most = k.most u b in
     let f = c.start_row-from.ensures net t _ _ _ k n z (omega arith) before in
-    let g = c.add_run.ensures net t _ (suc u) h f.behind f.up_to (omega arith) f.tallied in
-    tallied_front k h.indexed.light u b (c.add_links.ensures net t _ h (omega arith)) _ (k.some u b) g
+    let g = c.add_run.ensures net t by_place _ (suc u) h f.behind f.up_to (omega arith) f.tallied in
+    tallied_front k h.indexed.light u b (c.add_links.ensures net t by_place _ h (omega arith)) _ (k.some u b) g

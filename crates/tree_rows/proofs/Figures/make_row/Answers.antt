@@ -5,7 +5,7 @@ use Rattle.tree_rows.proofs.RowLaws.{row_made}
 use Rattle.tree_rows.proofs.Figures.make_row.Goals as goal
 
 pub returns : goal.returns
-returns c net t k =
+returns c net t by_place k =
     let u = c.args.u in
     let held = k.tree_held in
     let w = held.kept in
@@ -13,7 +13,7 @@ returns c net t k =
     let b : u < net.nodes = omega (arith, c.requires.inside) in
     let some = w.some u b in
     let most = w.most u b in
-    let tallied = c.tally_row.ensures net t held c.requires.some k.row.tallied b in
+    let tallied = c.tally_row.ensures net t by_place held c.requires.some k.row.tallied b in
     let summed = c.sum_row.ensures net _ (record {
       light = held.indexed.light;
       weighed = k.degrees;
