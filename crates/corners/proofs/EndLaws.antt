@@ -76,6 +76,12 @@ pub goes-mirror : (i j x y : ℕ) → goes i j x y ≡ goes j i x y
 goes-mirror i j x y =
     rw (eqb_comm i j, and_comm (eqb x i) (eqb y j), and_comm (eqb y i) (eqb x j), or_comm (eqb y j && eqb x i) (eqb x j && eqb y i))
 
+pub corner-below : (a b : Bool) → corner a b < 4
+corner-below true true = omega arith
+corner-below true false = omega arith
+corner-below false true = omega arith
+corner-below false false = omega arith
+
 both_ends : (x y i j : ℕ) → (eqb x i && eqb y j) ≡ true → (x ≡ i) × (y ≡ j)
 both_ends x y i j h = let p = (and-eq-true_iff (eqb x i) (eqb y j)).0 h in (eqb-true x i p.0, eqb-true y j p.1)
 

@@ -16,7 +16,8 @@ use Rattle.cuts.specs.Cut.{Side}
 use Rattle.cuts.specs.Limits.{most_links, four_bytes}
 use Rattle.sheet.specs.Bytes.{Bytes, map_bit}
 use Rattle.sheet.specs.Areas.{side_read}
-use Rattle.arrays.specs.declared.sheets.Sheet.{Sheet}
+use Rattle.arrays.specs.declared.Layout.{Layout}
+use Rattle.arrays.specs.declared.Links.{Links}
 use Rattle.arrays.specs.Lists.{entry}
 use Rattle.arrays.proofs.LinkLaws.{links_of-length, links_of-at}
 use Rattle.format.specs.Numbers.{Is}
@@ -42,67 +43,67 @@ pub record Turn (t : List (List ℕ)) (x y w : ℕ) (next : List (List ℕ)) : T
   pub apart : (x ≡ y → ⊥) → raised (raised t x y w) y x w ≡ next
 
 -- the table of the first k links that the arrays hold
-abbrev pub filled_to : Bytes → Bytes → Sheet → ℕ → List (List ℕ)
-filled_to first second n k = corner_table_to k (bare_network n) (side_read n.layout.nodes first) (side_read n.layout.nodes second)
+abbrev pub filled_to : Bytes → Bytes → Layout → Links → ℕ → List (List ℕ)
+filled_to first second l links k = corner_table_to k (bare_network l links) (side_read l.nodes first) (side_read l.nodes second)
 
-module _ (first second : Bytes) (n : Sheet) where
+module _ (first second : Bytes) (l : Layout) (links : Links) where
   abbrev net : Network
-  net = bare_network n
+  net = bare_network l links
 
   abbrev r : Side
-  r = side_read n.layout.nodes first
+  r = side_read l.nodes first
 
   abbrev s : Side
-  s = side_read n.layout.nodes second
+  s = side_read l.nodes second
 
   -- the corner of a node by its bits
   abbrev at : ℕ → ℕ
   at x = corner (map_bit first x) (map_bit second x)
 
-  pub none_filled : no_table ≡ filled_to first second n 0
+  pub none_filled : no_table ≡ filled_to first second l links 0
   none_filled = sym (corner_table_to-zero net r s)
 
-  module _ (f : Fillable first second (bare_network n)) where
-    all-links : link_count net ≡ n.layout.links
-    all-links = links_of-length n.layout.links n.links.now.firsts n.links.now.seconds n.links.now.weights
+  module _ (f : Fillable first second (bare_network l links)) where
+    all-links : link_count net ≡ l.links
+    all-links = links_of-length l.links links.firsts links.seconds links.weights
 
-    pub few_links : n.layout.links ≤ most_links
-    few_links = let e = all-links in let l = f.light.few in omega arith
+    pub few_links : l.links ≤ most_links
+    few_links = let e = all-links in let m = f.light.few in omega arith
 
-    pub all-filled : (k : ℕ) → k ≡ n.layout.links → filled_to first second n k ≡ corner_table net r s
+    pub all-filled : (k : ℕ) → k ≡ l.links → filled_to first second l links k ≡ corner_table net r s
     all-filled k e = ap (λ (m : ℕ). corner_table_to m net r s) (e ∙ sym all-links) ∙ corner_table-filled net r s f.linked
 
-    module _ (k : ℕ) (b : k < n.layout.links) where
-      link-is : link_at net k ≡ record { first = entry n.links.now.firsts k; second = entry n.links.now.seconds k; weight = entry n.links.now.weights k }
-      link-is = links_of-at n.layout.links n.links.now.firsts n.links.now.seconds n.links.now.weights k b
+    module _ (k : ℕ) (b : k < l.links) where
+      link-is : link_at net k ≡ record { first = entry links.firsts k; second = entry links.seconds k; weight = entry links.weights k }
+      link-is = links_of-at l.links links.firsts links.seconds links.weights k b
 
       is_link : k < link_count net
       is_link = rw all-links b
 
-      weight-small : entry n.links.now.weights k < four_bytes
+      weight-small : entry links.weights k < four_bytes
       weight-small = let e = ap (λ (l : Link). l.weight) link-is in let l = f.light.small k is_link in omega arith
 
-      first-corner : corner_of r s (link_at net k).first ≡ at (entry n.links.now.firsts k)
-      first-corner = corner_bits n.layout.nodes first second (link_at net k).first (f.linked.first_in k is_link) ∙ ap (λ (e : Link). at e.first) link-is
+      first-corner : corner_of r s (link_at net k).first ≡ at (entry links.firsts k)
+      first-corner = corner_bits l.nodes first second (link_at net k).first (f.linked.first_in k is_link) ∙ ap (λ (e : Link). at e.first) link-is
 
-      second-corner : corner_of r s (link_at net k).second ≡ at (entry n.links.now.seconds k)
-      second-corner = corner_bits n.layout.nodes first second (link_at net k).second (f.linked.second_in k is_link) ∙ ap (λ (e : Link). at e.second) link-is
+      second-corner : corner_of r s (link_at net k).second ≡ at (entry links.seconds k)
+      second-corner = corner_bits l.nodes first second (link_at net k).second (f.linked.second_in k is_link) ∙ ap (λ (e : Link). at e.second) link-is
 
       most : (i j : ℕ) → i < 4 → j < 4 → cell (corner_table_to k net r s) i j ≤ k * four_bytes
       most i j p q = corner_table_to-most net r s k four_bytes (λ m l. let a = f.light.small m (let d = is_link in omega arith) in omega arith) i j p q
 
-      at_most : (c : Bool) → only c (entry n.links.now.weights k) ≤ entry n.links.now.weights k
+      at_most : (c : Bool) → only c (entry links.weights k) ≤ entry links.weights k
       at_most true = omega arith
       at_most false = omega arith
 
-      module _ (x y : ℕ) (x-is : Is 4 (at (entry n.links.now.firsts k)) x) (y-is : Is 4 (at (entry n.links.now.seconds k)) y) where
-        filled : Turn (corner_table_to k net r s) x y (entry n.links.now.weights k) (corner_table_to (suc k) net r s)
+      module _ (x y : ℕ) (x-is : Is 4 (at (entry links.firsts k)) x) (y-is : Is 4 (at (entry links.seconds k)) y) where
+        filled : Turn (corner_table_to k net r s) x y (entry links.weights k) (corner_table_to (suc k) net r s)
         filled =
             let u = most x y x-is.small y-is.small in
             let v = most y x y-is.small x-is.small in
             let w = weight-small in
             let l = few_links in
-            let g = raised_at (corner_table_to k net r s) x y (entry n.links.now.weights k) (corner_table_to-four net r s k) y x y-is.small x-is.small in
+            let g = raised_at (corner_table_to k net r s) x y (entry links.weights k) (corner_table_to-four net r s k) y x y-is.small x-is.small in
             let o = at_most (eqb x y && eqb y x) in
             let p : corner_of r s (link_at net k).first ≡ x = first-corner ∙ sym x-is.same in
             let q : corner_of r s (link_at net k).second ≡ y = second-corner ∙ sym y-is.same in
@@ -115,8 +116,8 @@ module _ (first second : Bytes) (n : Sheet) where
                   ∙ corner_table_to-raised net r s k x y p q n;
             }
 
-        pub turn : (t : List (List ℕ)) → t ≡ filled_to first second n k → Turn t x y (entry n.links.now.weights k) (filled_to first second n (suc k))
-        turn t e = subst (λ (t : List (List ℕ)). Turn t x y (entry n.links.now.weights k) (corner_table_to (suc k) net r s)) (sym e) filled
+        pub turn : (t : List (List ℕ)) → t ≡ filled_to first second l links k → Turn t x y (entry links.weights k) (filled_to first second l links (suc k))
+        turn t e = subst (λ (t : List (List ℕ)). Turn t x y (entry links.weights k) (corner_table_to (suc k) net r s)) (sym e) filled
 
 -- ---- rows one behind the other
 

@@ -13,7 +13,10 @@ use Rattle.sheet.specs.Bytes.{Bytes}
 use Rattle.sheet.specs.Reading.{check, first_failing, Reading, accepted, refused, number_of}
 use Rattle.sheet.specs.Sheet.{current, network, decode}
 use Rattle.sheet.specs.Areas.{side_length, side_read}
-use Rattle.arrays.specs.declared.sheets.Sheet.{Sheet}
+use Rattle.arrays.specs.declared.Layout.{Layout}
+use Rattle.arrays.specs.declared.Links.{Links}
+use Rattle.arrays.specs.Links.{ends_of}
+use Rattle.arrays.specs.Records.{SheetHeld}
 use Rattle.corners.specs.Corners.{corner_table, corner_weight, Four}
 use Rattle.corners.specs.CornersTold.{no_side, sides_there, corner_reading, no_table, table_left, table_read, CornersTold}
 use Rattle.corners.proofs.CornerLaws.{corner_table-four}
@@ -96,9 +99,10 @@ module _ (sheet first second : Bytes) where
           corners-told current sheet first second (v.number ∙ sym (ap number_of e)) (v.table_is ∙ sym (ap (table_left first second) e))
 
 -- a sheet's network has nodes and links as a table asks
-pub fillable : (first second : Bytes) (n : Sheet) → MapsLong first second → Fillable first second (bare_network n)
-fillable first second n long =
-    let a = n.held.accepted in
+pub fillable : (first second : Bytes) → MapsLong first second → (sheet : Bytes) (l : Layout) (links : Links) → SheetHeld current sheet (ends_of links) links.weights l
+    → Fillable first second (bare_network l links)
+fillable first second long sheet l links h =
+    let a = h.accepted in
     let k = a.sound.linked in
     record {
       long = long;

@@ -10,7 +10,7 @@ use Rattle.op_corners.proofs.corner_network.Goals.{After-no_side, then-no_side-v
 
 -- the network that was read
 abbrev net : After-no_side → Network
-net c = bare_network c.args.n.now
+net c = bare_network c.args.layout c.args.links.now
 
 pub returns-then-no_side : goal.returns-then-no_side
 returns-then-no_side c =

@@ -3,7 +3,7 @@
 use Rattle.std.proofs.lemmas.Result.{err_from_is_err_and}
 use Rattle.read_sheet.proofs.NetworkLaws.{was_read, was_refused, sheet-held}
 use Rattle.op_corners.specs.Tables.{MapsLong}
-use Rattle.op_corners.proofs.LeftLaws.{first_short, second_short, sheet-refused, sides_decide}
+use Rattle.op_corners.proofs.LeftLaws.{first_short, second_short, sheet-refused, sides_decide, fillable}
 use Rattle.op_corners.proofs.corner_sheet.Goals as goal
 use Rattle.op_corners.proofs.corner_sheet.Goals.{Else-second-lt-SIDE_LENGTH, then-first-lt-SIDE_LENGTH-via-else-first-lt-SIDE_LENGTH+then-second-lt-SIDE_LENGTH, then-first-lt-SIDE_LENGTH-via-then-first-lt-SIDE_LENGTH}
 
@@ -23,8 +23,11 @@ returns-then-first-lt-SIDE_LENGTH c =
 pub invariant_of-maps : goal.invariant_of-maps
 invariant_of-maps c = record { long = long (goal.at.invariant_of-maps c).Else-second-lt-SIDE_LENGTH }
 
-pub invariant_of-n : goal.invariant_of-n
-invariant_of-n c = record { held = sheet-held c.read_sheet.ensures c.in_ok-layout.was }
+pub corner_network-requires : goal.corner_network-requires
+corner_network-requires c =
+    let a = c.args in
+    fillable a.first.now a.second.now (long (goal.at.corner_network-requires c).Else-second-lt-SIDE_LENGTH) a.sheet.now _ _
+    (sheet-held c.read_sheet.ensures c.in_ok-layout.was)
 
 pub returns : goal.returns
 returns c =

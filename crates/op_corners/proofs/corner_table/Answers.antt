@@ -6,27 +6,26 @@ use native.Mathlib.Numerals.{add-one}
 use Rattle.arrays.specs.Lists.{entry}
 use Rattle.corners.proofs.TableLaws.{raised}
 use Rattle.op_corners.proofs.FillLaws.{Turn, filled_to, none_filled, few_links, all-filled, placed, turn}
-use Rattle.op_corners.proofs.LeftLaws.{fillable}
 use Rattle.op_corners.proofs.corner_table.Goals as goal
 use Rattle.op_corners.proofs.corner_table.Goals.{After-number-y, else-x-y, then-x-y}
 
 -- what holds of a turn, once the corners of the link's ends are known
 added : (c : After-number-y) → let l = c.loop-k in
     let a = c.args in
-    Turn l.table c.number-x.result c.number-y.result (entry a.n.now.links.now.weights l.k)
-    (filled_to a.maps.now.first.now a.maps.now.second.now a.n.now (suc l.k))
+    Turn l.table c.number-x.result c.number-y.result (entry a.links.now.weights l.k)
+    (filled_to a.maps.now.first.now a.maps.now.second.now a.layout a.links.now (suc l.k))
 added c =
     let l = c.loop-k in
     let a = c.args in
-    turn a.maps.now.first.now a.maps.now.second.now a.n.now (fillable a.maps.now.first.now a.maps.now.second.now a.n.now a.maps.now.long) l.k (omega arith)
+    turn a.maps.now.first.now a.maps.now.second.now a.layout a.links.now c.requires l.k (omega arith)
     c.number-x.result c.number-y.result (placed c.corner_of.ensures c.number-x.ensures) (placed c.corner_of-in-loop-k.ensures c.number-y.ensures) l.table l.invariant.filled
 
 pub loop-k-init : goal.loop-k-init
 loop-k-init c =
     let a = c.args in
     record {
-      few = few_links a.maps.now.first.now a.maps.now.second.now a.n.now (fillable a.maps.now.first.now a.maps.now.second.now a.n.now a.maps.now.long);
-      filled = none_filled a.maps.now.first.now a.maps.now.second.now a.n.now;
+      few = few_links a.maps.now.first.now a.maps.now.second.now a.layout a.links.now c.requires;
+      filled = none_filled a.maps.now.first.now a.maps.now.second.now a.layout a.links.now;
     }
 
 pub overflow_add-table : goal.overflow_add-table
@@ -52,4 +51,4 @@ pub returns : goal.returns
 returns c =
     let l = c.loop-k in
     let a = c.args in
-    l.invariant.filled ∙ all-filled a.maps.now.first.now a.maps.now.second.now a.n.now (fillable a.maps.now.first.now a.maps.now.second.now a.n.now a.maps.now.long) l.k (omega arith)
+    l.invariant.filled ∙ all-filled a.maps.now.first.now a.maps.now.second.now a.layout a.links.now c.requires l.k (omega arith)

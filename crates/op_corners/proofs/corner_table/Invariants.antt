@@ -7,5 +7,5 @@ use Rattle.op_corners.proofs.corner_table.Given as goal
 abbrev pub invariant-loop-k : goal.invariant-loop-k
 invariant-loop-k l = record {
   few : l.k-end ≤ 2048;
-  filled : l.table ≡ filled_to l.maps.first.now l.maps.second.now l.n l.k;
+  filled : l.table ≡ filled_to l.maps.first.now l.maps.second.now l.fn.layout l.links l.k;
 }
