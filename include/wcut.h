@@ -22,11 +22,11 @@ extern "C" {
 #define WCUT_SIDE_BYTES 32       /* a side, in the side area, in a list and in a side map: node k is bit k % 8 of byte k / 8 */
 #define WCUT_REPORT_BYTES 24     /* the report area, laid out as below */
 #define WCUT_LONGEST_SHEET 30853 /* a sheet of more bytes is refused */
-#define WCUT_STACK_BYTES 51792   /* what a call takes of the stack: measured on longest sheets (tools/bench --stack), not proved */
-#define WCUT_LIST_STACK_BYTES 64016 /* the same of wcut_list */
-#define WCUT_CORNERS_STACK_BYTES 19440 /* the same of wcut_corners */
-#define WCUT_THICKNESS_STACK_BYTES 51696 /* the same of wcut_thickness */
-#define WCUT_PAIRS_STACK_BYTES 52336 /* the same of wcut_pairs */
+#define WCUT_STACK_BYTES 47200   /* what a call takes of the stack: measured on longest sheets (tools/bench --stack), not proved */
+#define WCUT_LIST_STACK_BYTES 59424 /* the same of wcut_list */
+#define WCUT_CORNERS_STACK_BYTES 18448 /* the same of wcut_corners */
+#define WCUT_THICKNESS_STACK_BYTES 47104 /* the same of wcut_thickness */
+#define WCUT_PAIRS_STACK_BYTES 47744 /* the same of wcut_pairs */
 #define WCUT_MOST_NODES 256
 #define WCUT_MOST_LINKS 2048
 #define WCUT_MOST_TREES 32

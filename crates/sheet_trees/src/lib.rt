@@ -30,7 +30,8 @@ pub fn map_of(bytes: &[u8], layout: Layout, tree: usize) -> &[u8]
     tree_map(bytes, at, layout.links)
 }
 
-// A tree by its places, grown from its record.
+// A tree by its places, grown from its record. Not inlined: what growing and placing a tree take is then given back before the tree is searched.
+#[inline(never)]
 pub fn place_record(bytes: &[u8], layout: Layout, tree: usize, links: &Links) -> Places
     requires { TreeListed bytes.now links.now layout tree }
     ensures { TreePlaced bytes.now links.now layout tree result }

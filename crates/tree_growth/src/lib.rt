@@ -71,7 +71,9 @@ fn grow_queue(
     true
 }
 
-// Grows a tree from the list of its members, `None` where they do not join all nodes.
+// Grows a tree from the list of its members, `None` where they do not join all nodes. Not inlined: what it takes of the stack is given back before
+// the tree is placed.
+#[inline(never)]
 pub fn grow(nodes: usize, firsts: &[u8], seconds: &[u8], members: &[u16]) -> Option<Grown>
     requires { Growable firsts.now seconds.now members.now nodes }
     ensures { (net : Network) (t : Tree) → Given net t firsts.now seconds.now members.now nodes

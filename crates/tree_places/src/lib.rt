@@ -188,7 +188,8 @@ fn gather(nodes: usize, node: &[u8; MOST_NODES], from: &[u16; MOST_NODES]) -> [u
     out
 }
 
-// A tree by its places.
+// A tree by its places. Not inlined, as `tree_growth::grow`: the arrays of its passes then lie where those of growing the tree lay before.
+#[inline(never)]
 pub fn place_tree(nodes: usize, g: &Grown) -> Places
     requires { SomeNodes nodes }
     ensures { TreePlaced nodes g.now result }
