@@ -24,7 +24,7 @@ extern "C" {
 #define WCUT_LONGEST_SHEET 30853 /* a sheet of more bytes is refused */
 #define WCUT_STACK_BYTES 47200   /* what a call takes of the stack: measured on longest sheets (tools/bench --stack), not proved */
 #define WCUT_LIST_STACK_BYTES 59424 /* the same of wcut_list */
-#define WCUT_CORNERS_STACK_BYTES 18448 /* the same of wcut_corners */
+#define WCUT_CORNERS_STACK_BYTES 18464 /* the same of wcut_corners */
 #define WCUT_THICKNESS_STACK_BYTES 47104 /* the same of wcut_thickness */
 #define WCUT_PAIRS_STACK_BYTES 47744 /* the same of wcut_pairs */
 #define WCUT_MOST_NODES 256

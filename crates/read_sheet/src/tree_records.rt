@@ -83,7 +83,9 @@ pub fn grow_tree(map: &[u8], nodes: usize, count: usize, links: &Links) -> Optio
     grow(nodes, &links.firsts, &links.seconds, &members[..found])
 }
 
-// The tree record at a position. Answers where it ends.
+// The tree record at a position. Answers where it ends. Not inlined: how fast a search is depends on where the linker puts it, and so on the code in
+// front (docs/DECISIONS.md, 168).
+#[inline(never)]
 pub fn read_tree(
     s: &[u8],
     at: usize,
