@@ -4,7 +4,7 @@
 ghost use Rattle.std.specs.Prelude.{◌≡◌, ◌≤◌, length};
 ghost use Rattle.std.specs.Fn.{FnOnceTakesAtMut, FnOnceReturnsAtMut};
 ghost use Rattle.print_text.specs.Decimal.{Text};
-ghost use Rattle.print_text.specs.Line.{refused_line, Printed, Blank, rest_of, PutIn, in_room};
+ghost use Rattle.print_text.specs.Line.{refused_line, Printed, Blank, text_of, rest_of, PutIn, in_room};
 
 mod digits;
 mod printer;
@@ -19,7 +19,7 @@ pub fn print_in_room<'a, F: FnOnce(&mut Printer)>(
 ) -> &'a mut [u8]
     requires { most ≤ length out.old → (old : Printed) → Blank out old → FnOnceTakesAtMut F.FnOnce put old }
     ensures { (text : Text)
-        → ((old new : Printed) → Blank out.entry old → FnOnceReturnsAtMut F.FnOnce put old tt new → PutIn most old text new)
+        → ((old new : Printed) → Blank out.entry old → FnOnceReturnsAtMut F.FnOnce put old tt new → text_of new ≡ text)
         → result.now ≡ in_room most out.old text }
 {
     if out.len() < most {
